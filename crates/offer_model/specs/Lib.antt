@@ -1,0 +1,9 @@
+pub mod Roomy
+pub mod Numerals
+pub mod Assortments
+pub mod Problems
+pub mod Ranges
+pub mod Validity
+pub mod Revenue
+pub mod Limits
+pub mod Best

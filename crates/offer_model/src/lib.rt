@@ -1,0 +1,24 @@
+//! Problems of assortment optimisation: products, segments of customers, limits, and what an assortment earns.
+#![tactic(auto)]
+
+mod assortment;
+mod lists;
+mod memory;
+mod numerals;
+mod problems;
+mod products;
+mod ranges;
+mod revenue;
+mod segments;
+mod texts;
+
+pub use assortment::Assortment;
+pub use lists::{Bytes, Items, Limits, Numbers, Products, Segments, Wide};
+pub use memory::NoMemory;
+pub use numerals::{MOST_DIGITS, read_number};
+pub use problems::Problem;
+pub use products::{Fraction, Limit, ModelName, Product};
+pub use ranges::{MOST_AMOUNT, MOST_COUNT, MOST_LIMITS, MOST_PRODUCTS, MOST_REQUIRES, MOST_SEGMENTS};
+pub use revenue::{compare_fraction, gain, value_order, weight};
+pub use segments::Segment;
+pub use texts::Texts;
