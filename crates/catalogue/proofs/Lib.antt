@@ -1,0 +1,6 @@
+pub mod CatalogueProblemLemmas
+pub mod FieldLemmas
+pub mod GivenRowLemmas
+pub mod GivenRowsLemmas
+pub mod PlainTableLemmas
+pub mod RecordCountLemmas

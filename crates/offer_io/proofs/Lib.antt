@@ -1,0 +1,5 @@
+pub mod LoadLemmas
+pub mod EntryLemmas
+pub mod PutLemmas
+pub mod HeldLemmas
+pub mod CallLemmas
