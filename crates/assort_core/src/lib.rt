@@ -17,3 +17,6 @@ pub use request::Request;
 pub use top::run;
 pub use usage::{Command, Key, UsageCode, UsageFault};
 pub use words::read_words;
+
+#[cfg(test)]
+mod tests;

@@ -2,6 +2,7 @@
 #![tactic(auto)]
 
 mod assortment;
+mod laws;
 mod lists;
 mod memory;
 mod numerals;
@@ -13,12 +14,15 @@ mod segments;
 mod texts;
 
 pub use assortment::Assortment;
+pub use laws::worked_values_hold;
 pub use lists::{Bytes, Items, Limits, Numbers, Products, Segments, Wide};
 pub use memory::NoMemory;
 pub use numerals::{MOST_DIGITS, read_number};
 pub use problems::Problem;
 pub use products::{Fraction, Limit, ModelName, Product};
-pub use ranges::{MOST_AMOUNT, MOST_COUNT, MOST_LIMITS, MOST_PRODUCTS, MOST_REQUIRES, MOST_SEGMENTS};
+pub use ranges::{
+    MOST_AMOUNT, MOST_COUNT, MOST_LIMITS, MOST_PRODUCTS, MOST_REQUIRES, MOST_SEGMENTS,
+};
 pub use revenue::{compare_fraction, gain, value_order, weight};
 pub use segments::Segment;
 pub use texts::Texts;
