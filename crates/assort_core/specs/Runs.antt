@@ -69,4 +69,4 @@ pub record CannotWrite (words : List (List ℕ)) (store : StoreView) (out out' e
 pub record HasSolution (words : List (List ℕ)) (store : StoreView) : Type 0 where
   pub tells : IsTrue store.tells
   pub rows : IsOkAnd (asked_of words) (λ r.
-    (bytes : List ℕ) × (store.file (products_name r) ≡ Some bytes) × ((rows : List RowData) × HasRows bytes rows))
+      (bytes : List ℕ) × (store.file (products_name r) ≡ Some bytes) × ((rows : List RowData) × HasRows bytes rows))

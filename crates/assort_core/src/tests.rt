@@ -173,7 +173,9 @@ fn a_steady_store_gives_the_same_report(rt: HostRuntime) -> Result<(), Fail> {
     let mut out = CountSink::new();
     let mut err = CountSink::new();
     let alloc = rt.alloc();
-    let status = run(&rt, alloc, &words, &mut store, &mut out, &mut err, &OpenGate);
+    let status = run(
+        &rt, alloc, &words, &mut store, &mut out, &mut err, &OpenGate,
+    );
     assert_eq!(rt; status, 0);
     assert_eq!(rt; out.written(), 58);
     Ok(())

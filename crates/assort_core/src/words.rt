@@ -51,7 +51,6 @@ fn read_key(word: &str) -> Option<Key>
     None
 }
 
-
 /// The key of the word at place `p`, which is new.
 fn new_key(request: &Request<'_>, p: usize, word: &str) -> Result<Key, UsageFault>
     ensures { result ≡ new_key request.now p word.now }
@@ -84,10 +83,7 @@ fn new_value<'a>(
 }
 
 /// The request with the pairs of the words from the second on.
-fn with_pairs<'a>(
-    words: &'a Texts,
-    command: Command,
-) -> Result<Request<'a>, UsageFault>
+fn with_pairs<'a>(words: &'a Texts, command: Command) -> Result<Request<'a>, UsageFault>
     requires { 0 < length words.now }
     ensures { result ≡ with_pairs (bare_request command) 2 (drop 1 words.now) }
 {

@@ -1,5 +1,5 @@
 -- The problem of a catalogue is a problem.
-use Rattle.std.proofs.Common.{◌≡◌, ◌∙◌, ◌≢◌, ℕ, ◌+◌, ◌≤◌, ◌<◌, List, [], ◌∷◌, ◌++◌, length, take, map, get_or, slice_index, All, Option, Some, slice_get, sym, refl, arith}
+use Rattle.std.proofs.Common.{◌≡◌, ◌∙◌, ◌≢◌, ℕ, ◌+◌, ◌≤◌, List, [], ◌∷◌, ◌++◌, length, take, map, get_or, slice_index, All, Some, slice_get, sym, refl, arith}
 use Prim.Native.Nat.{zero, suc}
 use Rattle.std.proofs.lemmas.List.{length-map, take_more}
 use Rattle.std.proofs.lemmas.List.Elements.{All-nil, All-cons, All-head, All-tail, All-map}
@@ -74,7 +74,8 @@ ratio_is_no_chain Chain ratio e = absurd ratio
 
 -- The catalogue's problem is in range and fits together.
 pub catalogue_problem : (rows : List RowData) (model : ModelName) (none unit : ℕ) (limits : List Limit) → IsCatalogue rows → IsRatioModel model
-    → IsPositiveAmount none → unit ≡ 1 → HasLimits (problem_data_of rows model none unit limits) → (model ≡ Attract → KeepsShadows rows)
+    → IsPositiveAmount none → unit ≡ 1 → HasLimits (problem_data_of rows model none unit limits)
+    → (model ≡ Attract → KeepsShadows rows)
     → IsProblem (problem_data_of rows model none unit limits)
 catalogue_problem rows model none unit limits valid ratio some one given keeps =
     let few = valid.few in
@@ -85,7 +86,8 @@ catalogue_problem rows model none unit limits valid ratio some one given keeps =
       products = All-map IsProduct (λ row. row.product) rows (λ k d inside. (valid.each k d inside).product);
       few_segments = omega arith;
       segments = All-cons IsSegment (segment_of rows model none) [] (catalogue_segment rows model none valid some keeps) (All-nil IsSegment);
-      each = All-cons (λ g. length g.attract ≡ product_count (problem_data_of rows model none unit limits)) (segment_of rows model none) [] (length-map rows (λ row. row.attraction) ∙ sym (length-map rows (λ row. row.product))) (All-nil _);
+      each = All-cons (λ g. length g.attract ≡ product_count (problem_data_of rows model none unit limits)) (segment_of rows model none) []
+          (length-map rows (λ row. row.attraction) ∙ sym (length-map rows (λ row. row.product))) (All-nil _);
       sizes = omega arith;
       few_limits = given.few;
       few_requires = given.few_requires;

@@ -2,7 +2,6 @@
 use Rattle.std.proofs.Common.{◌≡◌, ℕ, ◌<◌, List, [], ◌∷◌, length, Option, Some, None, IsSome, option_map, Bor, refl, arith}
 use Rattle.csv.specs.Records.{field_at}
 use Rattle.csv.proofs.RecordFacts.{field-there}
-use Prim.Native.Nat.{zero, suc}
 
 -- A field is read at each place below the length.
 pub field_is_read : (read : Option (Bor (List ℕ))) (fields : List (List ℕ)) (i : ℕ) → i < length fields

@@ -1,5 +1,5 @@
 -- Which records give a row.
-use Rattle.std.proofs.Common.{◌≡◌, ◌≢◌, ℕ, List, [], ◌∷◌, length, sym, arith}
+use Rattle.std.proofs.Common.{◌≡◌, ◌≢◌, ℕ, List, [], ◌∷◌, length, arith}
 use Rattle.catalogue.specs.Names.{IsName}
 use Rattle.catalogue.specs.Rows.{RowData}
 use Rattle.catalogue.specs.PlainTables.{WritesAmount, GivesRow, GivesNoRow}

@@ -1,5 +1,5 @@
 -- Which lists of records give rows, one record after another.
-use Rattle.std.proofs.Common.{◌≡◌, ◌∙◌, ◌≢◌, ℕ, ◌+◌, ◌<◌, List, [], ◌∷◌, ◌++◌, length, take, map, get_or, Bool, true, false, not, if◌then◌else◌, Bor, AllPairs, refl, sym, ap, arith}
+use Rattle.std.proofs.Common.{◌≡◌, ◌∙◌, ℕ, ◌+◌, ◌<◌, List, [], ◌∷◌, ◌++◌, length, take, map, get_or, Bool, true, false, not, if◌then◌else◌, Bor, AllPairs, refl, sym, ap, arith}
 use Rattle.std.specs.List.{AllZip, list_any}
 use Rattle.std.specs.Str.{bytes_eq}
 use Rattle.std.proofs.lemmas.List.{length-map, get_or-map, length-take, map-append, get_or-take, take_more}
@@ -9,8 +9,9 @@ use Rattle.std.proofs.lemmas.List.Folds.{Any-from_list_any, list_any_at}
 use Rattle.std.proofs.lemmas.List.Quantifiers.{all_pairs_push}
 use Rattle.std.proofs.lemmas.Slice.Eq.{bytes_eq-Decides}
 use Rattle.std.proofs.lemmas.Bool.{false≢true}
+use Rattle.catalogue.proofs.CallerLemmas.{same_row}
 use Rattle.catalogue.specs.Rows.{RowData, no_row, NamesDiffer}
-use Rattle.catalogue.specs.PlainTables.{GivesRow, GivesNoRow, GiveRows, GiveNoRows}
+use Rattle.catalogue.specs.PlainTables.{GivesRow, GivesNoRow, GiveNoRows}
 
 -- the name of a row
 abbrev pub name_of : RowData → List ℕ
@@ -30,11 +31,7 @@ AllZip-get_or R (a ∷ xs) (b ∷ ys) (suc i) x y all inside = AllZip-get_or R x
 
 -- A record gives one name.
 pub given_name : (fields : List (List ℕ)) (row other : RowData) → GivesRow fields row → GivesRow fields other → row.name ≡ other.name
-given_name [] row other h g = absurd h
-given_name (a ∷ []) row other h g = absurd h
-given_name (a ∷ b ∷ []) row other h g = absurd h
-given_name (a ∷ b ∷ c ∷ []) row other h g = ap name_of h.3 ∙ sym (ap name_of g.3)
-given_name (a ∷ b ∷ c ∷ d ∷ rest) row other h g = absurd h
+given_name fields row other h g = ap name_of (same_row fields row other h g)
 
 -- A test of lent names is a test of their bytes.
 pub list_any-lent_names : (name : List ℕ) (keys : List (Bor (List ℕ)))

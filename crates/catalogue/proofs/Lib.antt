@@ -1,3 +1,4 @@
+pub mod CallerLemmas
 pub mod CatalogueProblemLemmas
 pub mod FieldLemmas
 pub mod GivenRowLemmas

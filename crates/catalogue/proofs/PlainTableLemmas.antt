@@ -1,12 +1,11 @@
 -- Plain tables, and that their rows are a catalogue.
-use Rattle.std.proofs.Common.{◌≡◌, ℕ, ◌<◌, ◌≤◌, List, [], ◌∷◌, length, All, sym, ap, refl, arith}
+use Rattle.std.proofs.Common.{◌≡◌, ℕ, ◌<◌, ◌≤◌, List, [], ◌∷◌, length, All, refl, arith}
 use Rattle.std.specs.List.{AllZip}
 use Rattle.std.proofs.lemmas.Slice.Zip.{AllZip-long}
 use Rattle.std.proofs.lemmas.List.Elements.{All-nil, All-cons}
 use Rattle.offer_model.specs.declared.ranges.TheConstants.{MOST_PRODUCTS}
-use Rattle.offer_model.specs.Validity.{IsProduct}
 use Rattle.catalogue.specs.Rows.{RowData, IsRow, IsCatalogue}
-use Rattle.catalogue.specs.PlainTables.{plain_header, plain_row, GivesRow, GiveRows, IsPlainTable, IsNotPlain}
+use Rattle.catalogue.specs.PlainTables.{plain_header, GivesRow, GiveRows, IsPlainTable, IsNotPlain}
 
 -- A plain row is in range where its name and its numbers are.
 pub given_row : (fields : List (List ℕ)) (row : RowData) → GivesRow fields row → IsRow row

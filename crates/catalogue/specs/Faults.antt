@@ -1,5 +1,4 @@
 -- Why a file gives nothing. Own.
-use Rattle.std.specs.Prelude.{ℕ}
 use Rattle.catalogue.specs.declared.faults.Code.TheVariants.{NotPlain}
 use Rattle.catalogue.specs.declared.faults.FileName.TheVariants.{Products}
 use Rattle.catalogue.specs.declared.faults.InputFault.{InputFault}

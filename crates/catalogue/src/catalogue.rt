@@ -20,7 +20,15 @@ impl Model for Row {
 
     ghost Value = { RowData };
 
-    ghost view = { λ r. record { name = string_bytes r.name; product = r.product; attraction = r.attraction; shadow = r.shadow; arrival = r.arrival; category = []; ladder = [] } };
+    ghost view = { λ r. record {
+      name = string_bytes r.name;
+      product = r.product;
+      attraction = r.attraction;
+      shadow = r.shadow;
+      arrival = r.arrival;
+      category = [];
+      ladder = [];
+    } };
 }
 
 /// The products that there are, in file order.

@@ -1,10 +1,8 @@
-ghost use Rattle.std.specs.Prelude.{◌≡◌, ◌≢◌, ◌<◌, ◌≤◌, ◌↔◌, ℕ, List, [], ◌∷◌, length, map, IsTrue, IfOk, IfErr, IfSome, IfNone, AllPairs};
-ghost use Rattle.std.specs.List.{AllZip};
+ghost use Rattle.std.specs.Prelude.{◌≡◌, ◌≢◌, ◌<◌, ◌≤◌, ◌↔◌, ℕ, [], ◌∷◌, length, map, IsTrue, IfOk, IfErr, IfSome, IfNone};
 ghost use Rattle.csv.specs.Records.{fields_of, field_at};
 ghost use Rattle.catalogue.specs.Faults.{OnFault, plain_fault};
 ghost use Rattle.catalogue.specs.PlainTables.{plain_header, plain_row, WritesAmount, GivesRow, GivesNoRow, GiveRows, GiveNoRows, IsPlainTable, IsNotPlain};
 ghost use Rattle.catalogue.specs.Records.{records_of};
-ghost use Rattle.catalogue.specs.Rows.{RowData, NamesDiffer};
 
 use crate::catalogue::{Catalogue, Row};
 use crate::faults::{Code, FileName, InputFault};

@@ -3,3 +3,5 @@ pub mod EntryLemmas
 pub mod PutLemmas
 pub mod HeldLemmas
 pub mod CallLemmas
+pub mod WriteLemmas
+pub mod CallerLemmas

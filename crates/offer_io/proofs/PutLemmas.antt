@@ -1,10 +1,10 @@
 -- What putting a file into a list of files changes.
-use Rattle.std.proofs.Common.{◌≡◌, ◌≢◌, ◌∙◌, sym, ap, refl, rules, arith, ℕ, ◌+◌, ◌<◌, ◌≤◌, ◌⊎◌, inl, inr, List, [], ◌∷◌, ◌++◌, length, Bool, true, false, cond, eqb, Option, Some, None, slice_get, slice_set, slice_index_or, length-set, get_or-set_same, Result, Ok, Err, OnOk, OnErr}
+use Rattle.std.proofs.Common.{◌≡◌, ◌≢◌, ◌∙◌, sym, ap, refl, arith, ℕ, ◌+◌, ◌<◌, ◌≤◌, ◌⊎◌, inl, inr, List, [], ◌∷◌, length, true, false, eqb, Option, Some, None, slice_index_or, length-set, Result, Ok, Err, OnOk, OnErr}
 use Rattle.std.proofs.lemmas.Grind.{common_steps}
 use Rattle.std.proofs.lemmas.List.{get_or-set_other, get_or_append_left}
 use Rattle.std.proofs.lemmas.Bool.{ne_eqb}
 use Rattle.std.proofs.lemmas.Bool.Decides.{eqb_tells}
-use Rattle.std.specs.List.{position_or_len, position}
+use Rattle.std.specs.List.{position}
 use Rattle.std.specs.Option.{ForSome, option_map_or}
 use Rattle.std.proofs.lemmas.List.Folds.{position_or_len-set, position_or_len_push}
 use Rattle.offer_io.specs.declared.entries.Entry.{Entry}
@@ -12,7 +12,8 @@ use Rattle.offer_io.specs.Entries.{is_named, content_of, name_at, IsFirst, IsWri
 use Rattle.offer_io.specs.MemoryStores.{shelf_view, Puts}
 use Rattle.offer_io.proofs.EntryLemmas.{there, name_there, name_after, found, content_written, others_written, content_added, others_added}
 
-length_written : (files new : List Entry) (i : ℕ) (bytes : List ℕ) → IsWritten files i new bytes → length new ≡ length files
+length_written : (files new : List Entry) (i : ℕ) (bytes : List ℕ) → IsWritten files i new bytes
+    → length new ≡ length files
 length_written files new i bytes written = rw written.files (length-set {A = Entry} files i written.file)
 
 same_or_other : (i k : ℕ) → (k ≡ i) ⊎ (k ≢ i)
@@ -23,7 +24,8 @@ same_or_other i k = by_test (eqb_tells k i)
     by_test (inr h) = inr h.1
 
 -- a write keeps each name
-name_written : (files new : List Entry) (i : ℕ) (bytes : List ℕ) → IsFirst files i → IsWritten files i new bytes
+name_written : (files new : List Entry) (i : ℕ) (bytes : List ℕ) → IsFirst files i
+    → IsWritten files i new bytes
     → (k : ℕ) → k < length files → name_at new k ≡ name_at files k
 name_written files new i bytes first written k inside = by_case (same_or_other i k)
   where
@@ -33,10 +35,11 @@ name_written files new i bytes first written k inside = by_case (same_or_other i
         let long = length_written files new i bytes written in
         let d = written.file in
         name_there new k d (omega arith)
-            ∙ (rw written.files (ap (λ (e : Entry). e.name.items) (get_or-set_other files i k d d differs)) ∙ sym (name_there files k d inside))
+        ∙ (rw written.files (ap (λ (e : Entry). e.name.items) (get_or-set_other files i k d d differs)) ∙ sym (name_there files k d inside))
 
 -- a write keeps each first place
-firsts_written : (files new : List Entry) (i : ℕ) (bytes : List ℕ) → IsFirst files i → IsWritten files i new bytes
+firsts_written : (files new : List Entry) (i : ℕ) (bytes : List ℕ) → IsFirst files i
+    → IsWritten files i new bytes
     → (k : ℕ) → IsFirst files k → IsFirst new k
 firsts_written files new i bytes first written k was =
     let e = there files i first.inside in
@@ -50,7 +53,8 @@ firsts_written files new i bytes first written k was =
     }
 
 -- a file is put over one of its name
-pub put_written : (files new : List Entry) (i : ℕ) (name bytes : List ℕ) → position (is_named name) files ≡ Some i → IsWritten files i new bytes
+pub put_written : (files new : List Entry) (i : ℕ) (name bytes : List ℕ)
+    → position (is_named name) files ≡ Some i → IsWritten files i new bytes
     → IsPut files name bytes new
 put_written files new i name bytes at written =
     let f = found files name i at in
@@ -59,7 +63,9 @@ put_written files new i name bytes at written =
       others = λ other differs. others_written files new i bytes other f.1.inside written (λ e. differs (e ∙ f.0));
     }
 
-pub places_written : (files new : List Entry) (i : ℕ) (name bytes : List ℕ) → position (is_named name) files ≡ Some i → IsWritten files i new bytes
+-- A write keeps all places.
+pub places_written : (files new : List Entry) (i : ℕ) (name bytes : List ℕ)
+    → position (is_named name) files ≡ Some i → IsWritten files i new bytes
     → KeepsPlaces files new
 places_written files new i name bytes at written =
     let f = found files name i at in
@@ -70,6 +76,7 @@ places_written files new i name bytes at written =
       firsts = firsts_written files new i bytes f.1 written;
     }
 
+-- A list that is the same keeps all places.
 pub places_same : (files new : List Entry) → new ≡ files → KeepsPlaces files new
 places_same files new same = rw same (record {
   longer = omega arith;
@@ -77,7 +84,8 @@ places_same files new same = rw same (record {
   firsts = λ i first. first;
 })
 
-length_added : (files new : List Entry) (name bytes : List ℕ) → IsAdded files name bytes new → length new ≡ length files + 1
+length_added : (files new : List Entry) (name bytes : List ℕ) → IsAdded files name bytes new
+    → length new ≡ length files + 1
 length_added files new name bytes added = rw added.files (grind (arith, common_steps))
 
 names_added : (files new : List Entry) (name bytes : List ℕ) → IsAdded files name bytes new
@@ -86,9 +94,10 @@ names_added files new name bytes added k inside =
     let long = length_added files new name bytes added in
     let d = added.file in
     name_there new k d (omega arith)
-        ∙ (rw added.files (ap (λ (e : Entry). e.name.items) (get_or_append_left files (d ∷ []) d k inside)) ∙ sym (name_there files k d inside))
+    ∙ (rw added.files (ap (λ (e : Entry). e.name.items) (get_or_append_left files (d ∷ []) d k inside)) ∙ sym (name_there files k d inside))
 
-firsts_added : (files new : List Entry) (name bytes : List ℕ) → IsAdded files name bytes new → (k : ℕ) → IsFirst files k → IsFirst new k
+firsts_added : (files new : List Entry) (name bytes : List ℕ) → IsAdded files name bytes new → (k : ℕ)
+    → IsFirst files k → IsFirst new k
 firsts_added files new name bytes added k was =
     let long = length_added files new name bytes added in
     let same = names_added files new name bytes added k was.inside in
@@ -99,14 +108,17 @@ firsts_added files new name bytes added k was =
     }
 
 -- a file is put whose name is new
-pub put_added : (files new : List Entry) (name bytes : List ℕ) → content_of files name ≡ None → IsAdded files name bytes new
+pub put_added : (files new : List Entry) (name bytes : List ℕ) → content_of files name ≡ None
+    → IsAdded files name bytes new
     → IsPut files name bytes new
 put_added files new name bytes none added = record {
   there = content_added files new name bytes none added;
   others = λ other differs. others_added files new name bytes other added differs;
 }
 
-pub places_added : (files new : List Entry) (name bytes : List ℕ) → IsAdded files name bytes new → KeepsPlaces files new
+-- An added file keeps all places.
+pub places_added : (files new : List Entry) (name bytes : List ℕ) → IsAdded files name bytes new
+    → KeepsPlaces files new
 places_added files new name bytes added =
     let long = length_added files new name bytes added in
     record {
@@ -116,14 +128,16 @@ places_added files new name bytes added =
     }
 
 -- a file is put whose name is new, where memory may run out
-pub put_by_adding : {T E : Type 0} (result : Result T E) (files new : List Entry) (name bytes : List ℕ) → content_of files name ≡ None
+pub put_by_adding : {T E : Type 0} (result : Result T E) (files new : List Entry) (name bytes : List ℕ)
+    → content_of files name ≡ None
     → OnOk result (IsAdded files name bytes new) → OnErr result (new ≡ files)
     → KeepsPlaces files new × OnOk result (IsPut files name bytes new)
 put_by_adding (Ok t) files new name bytes none added same = (places_added files new name bytes added, put_added files new name bytes none added)
 put_by_adding (Err e) files new name bytes none added same = (places_same files new same, tt)
 
 -- the open output keeps its name
-output_put : (files new : List Entry) → KeepsPlaces files new → (output : Option ℕ) → ForSome output (IsFirst files)
+output_put : (files new : List Entry) → KeepsPlaces files new → (output : Option ℕ)
+    → ForSome output (IsFirst files)
     → option_map_or (name_at new) output [] ≡ option_map_or (name_at files) output []
 output_put files new keeps None first = refl
 output_put files new keeps (Some i) first = keeps.names i (first i refl).inside

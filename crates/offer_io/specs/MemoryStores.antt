@@ -1,10 +1,11 @@
 -- What a store in memory tells, and what putting a file there does. Own.
-use Rattle.std.specs.Prelude.{◌≡◌, ◌⊎◌, ℕ, true, false, List, [], Option, Some, None, is_some, IsTrue}
+use Rattle.std.specs.Prelude.{◌≡◌, ◌⊎◌, ℕ, true, false, List, [], Option, Some, None, is_some, IsTrue, Result}
 use Rattle.std.specs.Option.{option_map_or}
 use Rattle.offer_io.specs.declared.memory.MemoryStore.{MemoryStore}
 use Rattle.offer_io.specs.declared.entries.Entry.{Entry}
 use Rattle.offer_io.specs.Entries.{content_of, name_at, left_of}
-use Rattle.offer_io.specs.Plans.{CallPlan, fails_next}
+use Rattle.offer_io.specs.Plans.{CallPlan, fails_next, plan_after}
+use Rattle.offer_io.specs.Causes.{count_after}
 use Rattle.offer_io.specs.Stores.{StoreView, OthersStay}
 
 -- The view of files, of the place of the input and in it, of the place of the output, and of a count of faults.
@@ -42,6 +43,11 @@ empty_view = record {
   steady = false;
   held = [];
 }
+
+-- A call was counted: it took the next number, and the count of faults rose exactly where it failed.
+pub record Counts {T E : Type 0} (old : MemoryStore) (result : Result T E) (new : MemoryStore) : Type 0 where
+  pub plan : store_plan new ≡ plan_after (store_plan old)
+  pub faults : (memory_view new).faults ≡ count_after result (memory_view old).faults
 
 -- A file was put there, and all else is as it was. Of what is left of the open input nothing is said.
 pub record Puts (old : StoreView) (name content : List ℕ) (new : StoreView) : Type 0 where

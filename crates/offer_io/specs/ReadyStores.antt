@@ -3,6 +3,7 @@ use Rattle.std.specs.Prelude.{◌≡◌, ◌⊎◌, ◌↔◌, ℕ, true, false,
 use Rattle.offer_io.specs.declared.ready.ReadyStore.{ReadyStore}
 use Rattle.offer_io.specs.Entries.{names_of}
 use Rattle.offer_io.specs.Stores.{StoreView}
+use Rattle.offer_io.specs.MemoryStores.{shelf_view}
 
 -- It holds the names that were put, and tells nothing.
 abbrev pub ready_view : ReadyStore → StoreView
@@ -17,6 +18,10 @@ ready_view s = record {
   steady = true;
   held = names_of s.files.items;
 }
+
+-- What the store has, though it doesn't tell it: the same as a store in memory without an open output.
+abbrev pub shelf_of : ReadyStore → StoreView
+shelf_of s = shelf_view s.files.items s.input None s.faults
 
 -- A store that holds nothing.
 abbrev pub new_ready : StoreView

@@ -56,7 +56,8 @@ pub record Reads {E : Type 0} (old : StoreView) (result : Result ℕ E) (piece :
   pub stays : Stays old new
 
 -- An empty file is made as the open output. After a failure no output is open, and the file is as before or empty.
-pub record Creates {T E : Type 0} (old : StoreView) (name : List ℕ) (result : Result T E) (new : StoreView) : Type 0 where
+pub record Creates {T E : Type 0} (old : StoreView) (name : List ℕ) (result : Result T E) (new : StoreView)
+    : Type 0 where
   pub others : IsTrue old.tells → OthersStay name old new
   pub made : IsTrue old.tells → OnOk result ((new.file name ≡ Some []) × (new.output ≡ name))
   pub failed : IsTrue old.tells → OnErr result ((new.file name ≡ old.file name) ⊎ (new.file name ≡ Some []))
@@ -76,7 +77,7 @@ pub record Appends {T E : Type 0} (old : StoreView) (piece : List ℕ) (result :
   pub output : IsTrue old.tells → new.output ≡ old.output
   pub whole : IsTrue old.tells → OnOk result (Grows (old.file old.output) piece (new.file old.output))
   pub part : IsTrue old.tells
-    → OnErr result ((n : ℕ) × Grows (old.file old.output) (take n piece) (new.file old.output))
+      → OnErr result ((n : ℕ) × Grows (old.file old.output) (take n piece) (new.file old.output))
   pub reading : new.reading ≡ old.reading
   pub writing : new.writing ≡ true
   pub cause : HasCause old.faults new.faults result
@@ -97,5 +98,19 @@ pub record Seals {T E : Type 0} (old : StoreView) (result : Result T E) (new : S
 pub record Passes (old new : StoreView) : Type 0 where
   pub files : IsTrue old.tells → FilesStay old new
   pub writing : new.writing ≡ old.writing
+  pub later : old.faults ≤ new.faults
+  pub stays : Stays old new
+
+-- A file that is there is longer than so many bytes.
+abbrev pub IsLonger : Option (List ℕ) → ℕ → Type 0
+IsLonger file most = (content : List ℕ) × (file ≡ Some content) × (most < length content)
+
+-- What a call that only appends does: the open output, which stays open, has grown by these bytes.
+pub record Extends (old : StoreView) (bytes : List ℕ) (new : StoreView) : Type 0 where
+  pub others : IsTrue old.tells → OthersStay old.output old new
+  pub output : IsTrue old.tells → new.output ≡ old.output
+  pub grown : IsTrue old.tells → Grows (old.file old.output) bytes (new.file old.output)
+  pub reading : new.reading ≡ old.reading
+  pub writing : new.writing ≡ true
   pub later : old.faults ≤ new.faults
   pub stays : Stays old new

@@ -8,8 +8,8 @@ pub struct Failed;
 
 /// Files by name, of which at most one is open for reading and at most one for writing.
 ///
-/// Nothing is promised of what is left of the open input after a `create` or an `append`: where they name the same file,
-/// stores may differ.
+/// Nothing is promised of what is left of the open input after a `create` or an `append`: where they
+/// change the file that is read, stores may differ.
 pub trait Store {
     ghost view: { Self → StoreView };
 
@@ -17,8 +17,8 @@ pub trait Store {
     fn open(&mut self, name: &str) -> Result<(), Failed>
         ensures { Opens (view self.old) name.now result (view self.new) };
 
-    /// Puts the next bytes of the open input at the front of a piece, and answers their number. It is 0 for a piece that
-    /// isn't empty only at the end.
+    /// Puts the next bytes of the open input at the front of a piece, and answers their number, which
+    /// for a piece that isn't empty is 0 only at the end.
     fn read(&mut self, piece: &mut [u8]) -> Result<usize, Failed>
         requires { IsTrue (view self.old).reading }
         ensures { Reads (view self.old) result piece.new (view self.new) };
@@ -47,7 +47,8 @@ pub trait Sink {
         ensures { Writes (view self.old) piece.now result (view self.new) };
 }
 
-/// A gate that each worker passes before each task. It may hold a worker up, and changes nothing that contracts see.
+/// A gate that each worker passes before each task. It may hold a worker up, and changes nothing that
+/// contracts see.
 pub trait Gate {
     fn pass(&self, worker: u64, task: u64);
 }

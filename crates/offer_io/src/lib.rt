@@ -1,4 +1,5 @@
-//! What a program reads from and writes to: stores of files, sinks of bytes, and a gate that workers pass.
+//! What a program reads from and writes to: stores of files, sinks of bytes, and a gate that workers
+//! pass.
 #![tactic(auto)]
 
 mod devices;
@@ -9,6 +10,8 @@ mod memory;
 mod plans;
 mod ready;
 mod sinks;
+#[cfg(test)]
+mod tests;
 
 pub use devices::{Failed, Gate, OpenGate, Sink, Store};
 pub use host::{HostSink, HostStore};

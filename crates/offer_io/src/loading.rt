@@ -1,6 +1,6 @@
-ghost use Rattle.std.specs.Prelude.{◌≡◌, ℕ, List, Some, ◌≤◌, ◌<◌, length, IfOk, IsErrOf, IsTrue, Contains};
+ghost use Rattle.std.specs.Prelude.{◌≡◌, Some, ◌≤◌, length, IfOk, IsErrOf, IsTrue, Contains};
 ghost use Rattle.offer_io.specs.Causes.{Rose};
-ghost use Rattle.offer_io.specs.Stores.{Passes};
+ghost use Rattle.offer_io.specs.Stores.{Passes, IsLonger};
 
 use crate::Store;
 use offer_model::Bytes;
@@ -37,7 +37,7 @@ pub fn load<S: Store>(
         → (S.view store.old).file name.now ≡ Some bytes.items) }
     ensures fits { IfOk result (λ bytes. length bytes.items ≤ most) }
     ensures too_long { IsErrOf result LoadFault.TooLong → IsTrue (S.view store.old).tells
-        → (content : List ℕ) × ((S.view store.old).file name.now ≡ Some content) × (most < length content) }
+        → IsLonger ((S.view store.old).file name.now) most }
 
     // On a steady store that holds the name no read fails.
     ensures read_fault { IsErrOf result LoadFault.ReadFault

@@ -1,8 +1,8 @@
-// A struct with ghost fields imports each line here: what names the struct itself is imported by the blocks below.
+// A struct with ghost fields imports each line here, so what names the struct itself is imported by
+// the blocks below.
 ghost use Rattle.std.specs.Prelude.{◌≡◌, ◌<◌, length, OnOk, OnErr, IsErr, IsTrue, ◌↔◌, option_copied};
 ghost use Rattle.std.specs.Option.{ForSome};
-ghost use Rattle.offer_io.specs.Causes.{count_after};
-ghost use Rattle.offer_io.specs.Plans.{new_plan, plan_with, plan_after, fails_next};
+ghost use Rattle.offer_io.specs.Plans.{new_plan, plan_with, fails_next};
 ghost use Rattle.offer_io.specs.Entries.{IsFirst};
 
 use crate::entries::{self, Entry};
@@ -47,7 +47,8 @@ impl MemoryStore {
 
     /// Puts a file there, in place of one of its name.
     pub fn put(&mut self, name: &str, content: &[u8]) -> Result<(), NoMemory>
-        ensures ok { OnOk result (Puts (memory_view self.old) name.now content.now (memory_view self.new)) }
+        ensures ok { OnOk result
+            (Puts (memory_view self.old) name.now content.now (memory_view self.new)) }
         ensures err { OnErr result (memory_view self.new ≡ memory_view self.old) }
         ensures plan { store_plan self.new ≡ store_plan self.old }
     {
@@ -81,18 +82,18 @@ impl MemoryStore {
     }
 }
 
-#[tactic(auto, using(crate::proofs::EntryLemmas::content_first, crate::proofs::EntryLemmas::content_written, crate::proofs::EntryLemmas::others_written, crate::proofs::EntryLemmas::first_written, crate::proofs::EntryLemmas::found, crate::proofs::EntryLemmas::opened, crate::proofs::EntryLemmas::absent, crate::proofs::EntryLemmas::read_on, crate::proofs::EntryLemmas::read_end))]
+#[tactic(auto, using(crate::proofs::EntryLemmas::shelf_steps))]
 impl Store for MemoryStore {
-    ghost use Rattle.offer_io.specs.MemoryStores.{memory_view, store_plan, FailsToOpen};
+    ghost use Rattle.offer_io.specs.MemoryStores.{memory_view, store_plan, Counts, FailsToOpen};
     ghost use Rattle.offer_io.specs.Stores.{Opens, Reads, Creates, Appends, Seals};
 
     ghost view = { memory_view };
 
     fn open(&mut self, name: &str) -> Result<(), Failed>
         ensures opens { Opens (memory_view self.old) name.now result (memory_view self.new) }
-        ensures fails { IsErr result ↔ FailsToOpen (store_plan self.old) (memory_view self.old) name.now }
-        ensures plan { store_plan self.new ≡ plan_after (store_plan self.old) }
-        ensures faults { (memory_view self.new).faults ≡ count_after result (memory_view self.old).faults }
+        ensures fails { IsErr result
+            ↔ FailsToOpen (store_plan self.old) (memory_view self.old) name.now }
+        ensures counted { Counts self.old result self.new }
     {
         self.input = None;
         if self.plan.fails_now() {
@@ -115,8 +116,7 @@ impl Store for MemoryStore {
         requires { IsTrue (memory_view self.old).reading }
         ensures reads { Reads (memory_view self.old) result piece.new (memory_view self.new) }
         ensures fails { IsErr result ↔ IsTrue (fails_next (store_plan self.old)) }
-        ensures plan { store_plan self.new ≡ plan_after (store_plan self.old) }
-        ensures faults { (memory_view self.new).faults ≡ count_after result (memory_view self.old).faults }
+        ensures counted { Counts self.old result self.new }
     {
         let Some((place, from)) = self.input else {
             unreachable!();
@@ -133,8 +133,7 @@ impl Store for MemoryStore {
     fn create(&mut self, name: &str) -> Result<(), Failed>
         ensures creates { Creates (memory_view self.old) name.now result (memory_view self.new) }
         ensures fails { IsTrue (fails_next (store_plan self.old)) → IsErr result }
-        ensures plan { store_plan self.new ≡ plan_after (store_plan self.old) }
-        ensures faults { (memory_view self.new).faults ≡ count_after result (memory_view self.old).faults }
+        ensures counted { Counts self.old result self.new }
     {
         self.output = None;
         if self.plan.fails_now() {
@@ -164,8 +163,7 @@ impl Store for MemoryStore {
         requires { IsTrue (memory_view self.old).writing }
         ensures appends { Appends (memory_view self.old) piece.now result (memory_view self.new) }
         ensures fails { IsTrue (fails_next (store_plan self.old)) → IsErr result }
-        ensures plan { store_plan self.new ≡ plan_after (store_plan self.old) }
-        ensures faults { (memory_view self.new).faults ≡ count_after result (memory_view self.old).faults }
+        ensures counted { Counts self.old result self.new }
     {
         let Some(place) = self.output else {
             unreachable!();
@@ -185,8 +183,7 @@ impl Store for MemoryStore {
         requires { IsTrue (memory_view self.old).writing }
         ensures seals { Seals (memory_view self.old) result (memory_view self.new) }
         ensures fails { IsErr result ↔ IsTrue (fails_next (store_plan self.old)) }
-        ensures plan { store_plan self.new ≡ plan_after (store_plan self.old) }
-        ensures faults { (memory_view self.new).faults ≡ count_after result (memory_view self.old).faults }
+        ensures counted { Counts self.old result self.new }
     {
         self.output = None;
         if self.plan.fails_now() {

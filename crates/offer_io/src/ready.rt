@@ -1,4 +1,5 @@
-// A struct with ghost fields imports each line here: what names the struct itself is imported by the blocks below.
+// A struct with ghost fields imports each line here, so what names the struct itself is imported by
+// the blocks below.
 ghost use Rattle.std.specs.Prelude.{◌≡◌, ◌<◌, length, OnOk, OnErr, IsTrue, Contains};
 ghost use Rattle.std.specs.Option.{ForSome};
 ghost use Rattle.offer_io.specs.Causes.{count_after};
@@ -8,7 +9,8 @@ use crate::{Failed, Store};
 use offer_model::NoMemory;
 use std::alloc::Global;
 
-/// A steady store: it never fails at the files that were put. It tells no content, and forgets what is appended.
+/// A steady store: it never fails at the files that were put. It tells no content, and forgets what
+/// is appended.
 #[derive(Drop)]
 pub struct ReadyStore {
     alloc: Global,
@@ -20,11 +22,13 @@ pub struct ReadyStore {
 }
 
 impl ReadyStore {
-    ghost use Rattle.offer_io.specs.ReadyStores.{ready_view, new_ready, HoldsToo};
+    ghost use Rattle.offer_io.specs.ReadyStores.{ready_view, shelf_of, new_ready, HoldsToo};
+    ghost use Rattle.offer_io.specs.MemoryStores.{empty_view, Puts};
 
     /// A store without files. It keeps the allocator for later growth.
     pub fn new(alloc: Global) -> ReadyStore
-        ensures { ready_view result ≡ new_ready }
+        ensures view { ready_view result ≡ new_ready }
+        ensures shelf { shelf_of result ≡ empty_view }
     {
         ReadyStore {
             alloc,
@@ -38,24 +42,29 @@ impl ReadyStore {
     /// Puts a file there, in place of one of its name.
     pub fn put(&mut self, name: &str, content: &[u8]) -> Result<(), NoMemory>
         ensures ok { OnOk result (HoldsToo (ready_view self.old) name.now (ready_view self.new)) }
+        ensures shelf { OnOk result
+            (Puts (shelf_of self.old) name.now content.now (shelf_of self.new)) }
         ensures err { OnErr result (ready_view self.new ≡ ready_view self.old) }
+        ensures err_shelf { OnErr result (shelf_of self.new ≡ shelf_of self.old) }
     {
         entries::put_file(self.alloc, &mut self.files, name.as_bytes(), content)?;
         Ok(())
     }
 }
 
-#[tactic(auto, using(crate::proofs::HeldLemmas::held_found, crate::proofs::HeldLemmas::found_held, crate::proofs::EntryLemmas::place_inside))]
+#[tactic(auto, using(crate::proofs::HeldLemmas::held_steps, crate::proofs::EntryLemmas::shelf_steps))]
 impl Store for ReadyStore {
-    ghost use Rattle.offer_io.specs.ReadyStores.{ready_view};
+    ghost use Rattle.offer_io.specs.ReadyStores.{ready_view, shelf_of};
     ghost use Rattle.offer_io.specs.Stores.{Opens, Reads, Creates, Appends, Seals};
 
     ghost view = { ready_view };
 
     fn open(&mut self, name: &str) -> Result<(), Failed>
         ensures opens { Opens (ready_view self.old) name.now result (ready_view self.new) }
+        ensures shelf { Opens (shelf_of self.old) name.now result (shelf_of self.new) }
         ensures held { OnOk result (Contains (ready_view self.old).held name.now) }
-        ensures faults { (ready_view self.new).faults ≡ count_after result (ready_view self.old).faults }
+        ensures faults { (ready_view self.new).faults
+            ≡ count_after result (ready_view self.old).faults }
     {
         match entries::place_of(&self.files, name.as_bytes()) {
             Some(place) => {
@@ -72,6 +81,7 @@ impl Store for ReadyStore {
 
     fn read(&mut self, piece: &mut [u8]) -> Result<usize, Failed>
         requires { IsTrue (ready_view self.old).reading }
+        ensures shelf { Reads (shelf_of self.old) result piece.new (shelf_of self.new) }
         ensures reads { Reads (ready_view self.old) result piece.new (ready_view self.new) }
         ensures faults { (ready_view self.new).faults ≡ (ready_view self.old).faults }
     {
@@ -84,6 +94,7 @@ impl Store for ReadyStore {
     }
 
     fn create(&mut self, name: &str) -> Result<(), Failed>
+        ensures shelf { shelf_of self.new ≡ shelf_of self.old }
         ensures creates { Creates (ready_view self.old) name.now result (ready_view self.new) }
         ensures faults { (ready_view self.new).faults ≡ (ready_view self.old).faults }
     {
@@ -94,6 +105,7 @@ impl Store for ReadyStore {
 
     fn append(&mut self, piece: &[u8]) -> Result<(), Failed>
         requires { IsTrue (ready_view self.old).writing }
+        ensures shelf { shelf_of self.new ≡ shelf_of self.old }
         ensures appends { Appends (ready_view self.old) piece.now result (ready_view self.new) }
         ensures faults { (ready_view self.new).faults ≡ (ready_view self.old).faults }
     {
@@ -103,6 +115,7 @@ impl Store for ReadyStore {
 
     fn seal(&mut self) -> Result<(), Failed>
         requires { IsTrue (ready_view self.old).writing }
+        ensures shelf { shelf_of self.new ≡ shelf_of self.old }
         ensures seals { Seals (ready_view self.old) result (ready_view self.new) }
         ensures faults { (ready_view self.new).faults ≡ (ready_view self.old).faults }
     {

@@ -1,8 +1,6 @@
 ghost use Rattle.std.specs.Prelude.{◌≡◌, ◌+◌, ◌-◌, ◌^◌, min, length, OnOk, OnErr, IsErr, IsTrue};
-ghost use Rattle.offer_io.specs.Causes.{count_after};
-ghost use Rattle.offer_io.specs.Plans.{new_plan, plan_with, plan_after, fails_next};
-ghost use Rattle.offer_io.specs.HostDevices.{silent_view};
-ghost use Rattle.offer_io.specs.Sinks.{Writes};
+ghost use Rattle.offer_io.specs.Plans.{new_plan, plan_with, fails_next};
+ghost use Rattle.offer_io.specs.Sinks.{Writes, quiet_view};
 
 use crate::plans::Plan;
 use crate::{Failed, Sink};
@@ -60,15 +58,15 @@ impl MemorySink {
 }
 
 impl Sink for MemorySink {
-    ghost use Rattle.offer_io.specs.MemorySinks.{memory_sink_view, sink_plan};
+    ghost use Rattle.offer_io.specs.MemorySinks.{memory_sink_view, sink_plan, CountsWrite};
 
     ghost view = { memory_sink_view };
 
     fn write(&mut self, piece: &[u8]) -> Result<(), Failed>
-        ensures writes { Writes (memory_sink_view self.old) piece.now result (memory_sink_view self.new) }
+        ensures writes { Writes
+            (memory_sink_view self.old) piece.now result (memory_sink_view self.new) }
         ensures fails { IsTrue (fails_next (sink_plan self.old)) → IsErr result }
-        ensures plan { sink_plan self.new ≡ plan_after (sink_plan self.old) }
-        ensures faults { (memory_sink_view self.new).faults ≡ count_after result (memory_sink_view self.old).faults }
+        ensures counted { CountsWrite self.old result self.new }
     {
         if self.plan.fails_now() {
             self.faults = self.faults.saturating_add(1);
@@ -112,10 +110,10 @@ impl CountSink {
 }
 
 impl Sink for CountSink {
-    ghost view = { λ _. silent_view 0 };
+    ghost view = { λ _. quiet_view };
 
     fn write(&mut self, piece: &[u8]) -> Result<(), Failed>
-        ensures writes { Writes (silent_view 0) piece.now result (silent_view 0) }
+        ensures writes { Writes (quiet_view) piece.now result (quiet_view) }
         ensures count { self.new ≡ min (self.old + length piece.now) (2 ^ 64 - 1) }
     {
         self.written = self.written.saturating_add(piece.len() as u64);

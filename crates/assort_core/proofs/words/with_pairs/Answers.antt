@@ -22,6 +22,6 @@ pub pairs-preserved : goal.pairs-preserved
 pairs-preserved c = record {
   inside = omega arith;
   rest = at_pair c.pairs.request c.args.words.now c.pairs.at c.get.result.now c.get-in-pairs.result.now c.in-Ok.key c.in-Ok-new_value.more (omega arith)
-    c.get.ensures c.get-in-pairs.ensures (sym c.new_key.ensures ∙ c.in-Ok.is) (sym c.new_value.ensures ∙ c.in-Ok-new_value.is)
-    ∙ c.pairs.invariant.rest;
+      c.get.ensures c.get-in-pairs.ensures (sym c.new_key.ensures ∙ c.in-Ok.is) (sym c.new_value.ensures ∙ c.in-Ok-new_value.is)
+      ∙ c.pairs.invariant.rest;
 }

@@ -1,10 +1,10 @@
-use Rattle.std.proofs.Common.{◌≡◌, ◌∙◌, sym, ap, ◌∷◌, [], ◌++◌, map, true, false, refl, not, rules, Bor, List, ℕ, length, ◌<◌}
+use Rattle.std.proofs.Common.{◌≡◌, ◌∙◌, ◌∷◌, [], ◌++◌, map, false, refl, rules, length, ◌<◌}
 use Rattle.std.proofs.lemmas.List.{map-append, length-map}
 use Rattle.std.specs.List.{list_any}
 use Rattle.std.specs.Str.{bytes_eq}
 use Rattle.csv.specs.Records.{fields_of}
 use Rattle.catalogue.specs.PlainTables.{plain_row}
-use Rattle.catalogue.proofs.GivenRowsLemmas.{name_of, lent_names, fields_at, found_in, inserted, fresh, none_by_one, none_by_two, one_more}
+use Rattle.catalogue.proofs.GivenRowsLemmas.{name_of, fields_at, found_in, inserted, fresh, none_by_one, none_by_two, one_more}
 use Rattle.catalogue.proofs.plain.read_rows.Goals as goal
 
 pub returns-in_default-clause-refused : goal.returns-in_default-clause-refused

@@ -5,7 +5,14 @@ use Rattle.csv.specs.declared.parser.State.TheVariants as st
 use Rattle.csv.specs.declared.reader.Trim.TheVariants as trim
 use Rattle.catalogue.proofs.records.all_records.Given as goal
 
+-- the records so far take the reader from the start of the bytes to where it stands
 abbrev pub invariant-records : goal.invariant-records
-invariant-records l = (l.record-iterator.rdr.trim ≡ trim.None) × Ready l.record-iterator.rdr × (0 < l.record-iterator.left) × (l.record-iterator.rdr.config ≡ default_config)
-    × (y : List ℕ) × (source_of (λ s. Some s.now) l.record-iterator.rdr ≡ Some y)
-    × Reached default_config st.StartRecord (strip_bom l.fn.bytes) (map fields_of l.records.items) l.record-iterator.rdr.state y
+invariant-records l = record {
+  trim : l.record-iterator.rdr.trim ≡ trim.None;
+  ready : Ready l.record-iterator.rdr;
+  turns : 0 < l.record-iterator.left;
+  config : l.record-iterator.rdr.config ≡ default_config;
+  rest : List ℕ;
+  source : source_of (λ s. Some s.now) l.record-iterator.rdr ≡ Some rest;
+  reached : Reached default_config st.StartRecord (strip_bom l.fn.bytes) (map fields_of l.records.items) l.record-iterator.rdr.state rest;
+}

@@ -1,4 +1,4 @@
-use Rattle.std.proofs.Common.{refl, rules}
+use Rattle.std.proofs.Common.{refl}
 use Rattle.offer_io.proofs.EntryLemmas.{grown}
 use Rattle.offer_io.proofs.entries.empty_at.Goals as goal
 

@@ -1,4 +1,4 @@
-use Rattle.std.proofs.Common.{◌≡◌, ◌++◌, refl, rules, sym, ap, List, ℕ, Bool, true, false, if◌then◌else◌, []}
+use Rattle.std.proofs.Common.{◌≡◌, ◌++◌, refl, sym, ap, List, ℕ, Bool, true, false, if◌then◌else◌, []}
 use Rattle.std.specs.Result.{is_ok}
 use Rattle.std.proofs.lemmas.Grind.{common_steps}
 use Rattle.std.proofs.Common.{arith, ◌∙◌}

@@ -1,4 +1,4 @@
-use Rattle.std.proofs.Common.{ℕ, ◌-◌, length}
+use Rattle.std.proofs.Common.{◌-◌, length}
 use Rattle.offer_io.proofs.LoadLemmas.{IsLoading}
 use Rattle.offer_io.proofs.loading.load.Given as goal
 

@@ -1,4 +1,3 @@
-use Rattle.std.proofs.Common.{rules}
 use Rattle.offer_io.proofs.PutLemmas.{view_put, places_kept}
 use Rattle.offer_io.proofs.memory.MemoryStore.put.Goals as goal
 

@@ -1,6 +1,5 @@
-use Rattle.std.proofs.Common.{◌≡◌, ◌++◌, rules, arith, List, ℕ, [], true, false}
+use Rattle.std.proofs.Common.{◌≡◌, rules, true, false}
 use Rattle.std.specs.Result.{is_ok}
-use Rattle.offer_io.specs.Entries.{IsWritten, content_at}
 use Rattle.offer_io.proofs.CallLemmas.{append_stays, append_grows, append_fails, places_stay}
 use Rattle.offer_io.proofs.memory.MemoryStoreStore.append.Goals as goal
 

@@ -1,9 +1,9 @@
-use Rattle.std.proofs.Common.{◌≡◌, ◌++◌, ◌∙◌, sym, ap, rules, arith, Some, None, [], true, false, length}
+use Rattle.std.proofs.Common.{◌≡◌, rules, Some, None, true, length}
 use Rattle.std.specs.List.{position}
 use Rattle.std.specs.Result.{is_ok}
-use Rattle.offer_io.specs.Entries.{is_named, content_of, IsAdded}
-use Rattle.offer_io.proofs.EntryLemmas.{found, absent, first_added}
-use Rattle.offer_io.proofs.CallLemmas.{create_empties, create_adds, places_stay, places_added, of_ok}
+use Rattle.offer_io.specs.Entries.{is_named}
+use Rattle.offer_io.proofs.EntryLemmas.{found, absent}
+use Rattle.offer_io.proofs.CallLemmas.{create_empties, create_adds, places_stay, places_after_adding, of_ok}
 use Rattle.offer_io.proofs.memory.MemoryStoreStore.create.Goals as goal
 
 pub returns-in-Some-clause-creates : goal.returns-in-Some-clause-creates
@@ -35,5 +35,5 @@ invariant_of-self-in-None c =
     let good : is_ok c.add_file.result ≡ true = search rules in
     let added = rw (c.as_bytes-in-None.ensures.value, c.new-empty.ensures.items) at (of_ok c.add_file.result _ good c.add_file.ensures.ok) in
     let long : c.len-place.result ≡ length c.args.self.now.files.items = search rules in
-    let p = places_added _ _ _ c.args.self.now.input none added c.args.self.now.input_there in
+    let p = places_after_adding _ _ _ c.args.self.now.input none added c.args.self.now.input_there in
     rw long (record { input_there = p.0; output_there = p.1 })
