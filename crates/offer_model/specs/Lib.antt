@@ -7,3 +7,4 @@ pub mod Validity
 pub mod Revenue
 pub mod Limits
 pub mod Best
+pub mod Nodes
