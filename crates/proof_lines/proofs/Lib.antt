@@ -1,0 +1,2 @@
+pub mod AcceptedIsBest
+pub mod AcceptedIsBracketed

@@ -1,0 +1,27 @@
+-- What is proved of certificates, as statements.
+use Rattle.std.specs.Prelude.{◌≡◌, ℕ, Bool, List}
+use Rattle.offer_model.specs.Problems.{ProblemData}
+use Rattle.offer_model.specs.Best.{IsBest}
+use Rattle.offer_model.specs.Chains.{ChainData}
+use Rattle.offer_model.specs.Stopping.{StoppingData}
+use Rattle.offer_model.specs.Claims.{IsBracketed}
+use Rattle.proof_lines.specs.declared.line.Shape.{Shape}
+use Rattle.proof_lines.specs.Lines.{IsLine, line_text}
+use Rattle.proof_lines.specs.Trees.{Tree, ProofData, IsProof}
+use Rattle.proof_lines.specs.Acceptance.{IsAccepted, IsAcceptedChain}
+
+-- The assortment of an accepted text is the best one.
+abbrev pub AcceptedIsBest : Type 0
+AcceptedIsBest = (p : ProblemData) (text : List ℕ) (x : List Bool) (tree : Tree) → IsAccepted p text x tree → IsBest p x
+
+-- The assortment and the bounds of an accepted text of a chain are what the chain's claim says.
+abbrev pub AcceptedIsBracketed : Type 0
+AcceptedIsBracketed = (c : ChainData) (text : List ℕ) (s : StoppingData) → IsAcceptedChain c text s → IsBracketed c s.set s.lo s.up
+
+-- Two lines of one text are one line.
+abbrev pub LinesDiffer : Type 0
+LinesDiffer = (s t : Shape) (ns ms : List ℕ) → IsLine s ns → IsLine t ms → line_text s ns ≡ line_text t ms → (s ≡ t) × (ns ≡ ms)
+
+-- Two proofs of one text are one proof.
+abbrev pub ProofsDiffer : Type 0
+ProofsDiffer = (d e : ProofData) (text : List ℕ) → IsProof d text → IsProof e text → d ≡ e

@@ -1,0 +1,5 @@
+pub mod Lines
+pub mod Trees
+pub mod Closing
+pub mod Acceptance
+pub mod Laws

@@ -1,0 +1,14 @@
+//! What is proved of certificates: each function's contract is a law, and its body is empty.
+
+ghost use Rattle.proof_lines.specs.Laws.{AcceptedIsBest, AcceptedIsBracketed};
+
+/// Whoever wrote a text that is accepted for a problem, its assortment is the best one.
+pub fn accepted_is_best()
+    ensures { AcceptedIsBest }
+{}
+
+/// Whoever wrote a text that is accepted for a chain, its assortment brings at least its lower bound, and none brings
+/// more than its upper one.
+pub fn accepted_is_bracketed()
+    ensures { AcceptedIsBracketed }
+{}
