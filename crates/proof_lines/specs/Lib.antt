@@ -1,4 +1,5 @@
 pub mod Lines
+pub mod Reading
 pub mod Trees
 pub mod Closing
 pub mod Acceptance

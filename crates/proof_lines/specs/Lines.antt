@@ -75,8 +75,8 @@ digits_text (d ∷ ds) = map (λ k. 48 + k) (d ∷ ds)
 
 abbrev pub value_text : List ℕ → List ℕ
 value_text (zero ∷ a ∷ []) = decimal a
-value_text (suc zero ∷ a ∷ b ∷ []) = decimal a ++ codes "/" ++ decimal b
-value_text (suc (suc zero) ∷ a ∷ b ∷ []) = decimal a ++ codes " " ++ decimal b
+value_text (suc zero ∷ a ∷ b ∷ []) = decimal a ++ (codes "/" ++ decimal b)
+value_text (suc (suc zero) ∷ a ∷ b ∷ []) = decimal a ++ (codes " " ++ decimal b)
 value_text _ = []
 
 -- The text of a line, without its line feed.
@@ -94,6 +94,10 @@ line_text S.Segments ns = codes "s" ++ spaced ns
 line_text S.Upper ns = codes "u" ++ spaced ns
 line_text S.Lower ns = codes "h" ++ spaced ns
 line_text S.End ns = codes "end"
+
+-- The bytes are the text of some line.
+abbrev pub IsLineText : List ℕ → Type 0
+IsLineText bytes = (shape : Shape) × (numbers : List ℕ) × IsLine shape numbers × (line_text shape numbers ≡ bytes)
 
 -- Lines, each with its line feed.
 abbrev pub text_of : List LineData → List ℕ

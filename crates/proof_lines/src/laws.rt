@@ -1,6 +1,6 @@
 //! What is proved of certificates: each function's contract is a law, and its body is empty.
 
-ghost use Rattle.proof_lines.specs.Laws.{AcceptedIsBest, AcceptedIsBracketed};
+ghost use Rattle.proof_lines.specs.Laws.{AcceptedIsBest, AcceptedIsBracketed, LinesDiffer, ProofsDiffer};
 
 /// Whoever wrote a text that is accepted for a problem, its assortment is the best one.
 pub fn accepted_is_best()
@@ -11,4 +11,14 @@ pub fn accepted_is_best()
 /// more than its upper one.
 pub fn accepted_is_bracketed()
     ensures { AcceptedIsBracketed }
+{}
+
+/// Each line has one text, and a text is at most one line's.
+pub fn lines_differ()
+    ensures { LinesDiffer }
+{}
+
+/// A text is the proof of at most one header and tree.
+pub fn proofs_differ()
+    ensures { ProofsDiffer }
 {}

@@ -3,6 +3,8 @@
 
 mod laws;
 mod line;
+mod numbers;
 
-pub use laws::{accepted_is_best, accepted_is_bracketed};
+pub use laws::{accepted_is_best, accepted_is_bracketed, lines_differ, proofs_differ};
 pub use line::{Line, Shape};
+pub use numbers::MOST_NUMBER;
