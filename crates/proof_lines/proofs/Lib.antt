@@ -5,3 +5,5 @@ pub mod SpacedLemmas
 pub mod LinesDiffer
 pub mod FeedLemmas
 pub mod ProofsDiffer
+pub mod ReadLemmas
+pub mod ValueLemmas

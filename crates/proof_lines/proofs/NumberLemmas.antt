@@ -107,7 +107,7 @@ decimal_take ds a z few (suc i) l =
     let last : 48 + digit_value (get_or ds (suc i) 0) ≡ get_or ds (suc i) 0 = omega arith in
     record {
       text = rw (more, front) (decimal_more (digits_value 10 (take (suc i) ds)) (digit_value (get_or ds (suc i) 0)) (take (suc i) ds) some (omega arith) (omega (arith, before.small)) before.text
-        ∙ ap (λ c. take (suc i) ds ++ c ∷ []) last);
+          ∙ ap (λ c. take (suc i) ds ++ c ∷ []) last);
       small = rw more (let small = before.small in let p : 10 ^ suc (suc i) ≡ 10 ^ suc i * 10 = pow-suc 10 (suc i) in omega arith);
     }
   where

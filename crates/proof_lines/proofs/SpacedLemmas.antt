@@ -40,9 +40,17 @@ pub spaced-push : (xs whole : List ℕ) (ns : List ℕ) (k n : ℕ) → k < leng
     → xs ++ spaced (drop k ns) ≡ whole → ((xs ++ 32 ∷ []) ++ decimal n) ++ spaced (drop (k + 1) ns) ≡ whole
 spaced-push xs whole ns k n inside e h =
     rw (append_assoc (xs ++ 32 ∷ []) (decimal n) (spaced (drop (k + 1) ns)), append_assoc xs (32 ∷ []) (decimal n ++ spaced (drop (k + 1) ns)))
-      (ap (λ t. xs ++ t) (sym (spaced-drop ns k n inside e)) ∙ h)
+    (ap (λ t. xs ++ t) (sym (spaced-drop ns k n inside e)) ∙ h)
 
 pub spaced_drop-some : (ns : List ℕ) (k : ℕ) → k < length ns → 0 < length (spaced (drop k ns))
 spaced_drop-some [] k l = absurd (omega arith)
 spaced_drop-some (n ∷ ns) zero l = omega arith
 spaced_drop-some (n ∷ ns) (suc k) l = spaced_drop-some ns k (omega arith)
+
+-- ---- A letter before them.
+
+pub letter_one : (letter : ℕ) (ns ms bytes : List ℕ) → AreNumbers ns → AreNumbers ms → letter ∷ spaced ns ≡ bytes → letter ∷ spaced ms ≡ bytes → ns ≡ ms
+letter_one letter ns ms bytes a b e f = spaced_one ns ms a b (tails letter (spaced ns) (spaced ms) (e ∙ sym f))
+  where
+    tails : (c : ℕ) (xs ys : List ℕ) → c ∷ xs ≡ c ∷ ys → xs ≡ ys
+    tails c xs ys e = cc

@@ -35,13 +35,13 @@ abbrev pub PricesClose : ProblemData → List Bool → List Mark → Shape → L
 PricesClose p x node S.Multipliers us at = MultipliersFit p us × BoundCloses x node (Some (multipliers_bound p node us at))
 PricesClose p x node S.Shelf us at = (us ≡ []) × ¬ Clashes p node × BoundCloses x node (shelf_bound p node at)
 PricesClose p x node S.Potentials us at = ¬ Clashes p node × PotentialsFit p node at.price us
-  × BoundCloses x node (Some (potentials_bound p node us at))
+    × BoundCloses x node (Some (potentials_bound p node us at))
 PricesClose p x node _ us at = ⊥
 
 -- Under mixed logit, a leaf that bounds by segments.
 abbrev pub SegmentsClose : ProblemData → List Bool → List Mark → Shape → List ℕ → Type 0
 SegmentsClose p x node S.Segments us = SegmentsFit p node us
-  × ((segments_bound us < value_of p x) ⊎ ((segments_bound us ≡ value_of p x) × ComesAfter node x))
+    × ((segments_bound us < value_of p x) ⊎ ((segments_bound us ≡ value_of p x) × ComesAfter node x))
 SegmentsClose p x node _ us = ⊥
 
 abbrev pub ClosesUnder : ModelName → ProblemData → List Bool → List Mark → Shape → List ℕ → Type 0
@@ -59,4 +59,4 @@ Closes p x node shape us = ClosesUnder p.model p x node shape us
 abbrev pub TreeCloses : ProblemData → List Bool → List Mark → Tree → Type 0
 TreeCloses p x node (leaf shape us) = Closes p x node shape us
 TreeCloses p x node (branch i inside outside) = (mark_at node i ≡ Open)
-  × TreeCloses p x (slice_set node i In) inside × TreeCloses p x (slice_set node i Out) outside
+    × TreeCloses p x (slice_set node i In) inside × TreeCloses p x (slice_set node i Out) outside

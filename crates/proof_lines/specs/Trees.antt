@@ -38,7 +38,7 @@ pub record ProofData : Type 0 where
 -- Four lines of header, the tree, and the end.
 abbrev pub lines_of : ProofData → List LineData
 lines_of d = line S.Start [] ∷ line (S.Model d.model) [] ∷ line S.Set d.digits ∷ line S.Value d.value
-  ∷ tree_lines d.tree (line S.End [] ∷ [])
+    ∷ tree_lines d.tree (line S.End [] ∷ [])
 
 -- The text is a proof that says this.
 pub record IsProof (d : ProofData) (text : List ℕ) : Type 0 where

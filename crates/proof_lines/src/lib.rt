@@ -5,8 +5,10 @@ mod laws;
 mod line;
 mod numbers;
 mod print;
+mod read;
 
 pub use laws::{accepted_is_best, accepted_is_bracketed, lines_differ, proofs_differ};
 pub use line::{Line, Shape};
 pub use numbers::MOST_NUMBER;
 pub use print::print_line;
+pub use read::read_line;

@@ -1,8 +1,8 @@
-ghost use Rattle.std.specs.Prelude.{◌≡◌, ℕ, ◌+◌, ◌-◌, ◌*◌, ◌<◌, ◌≤◌, ◌^◌, [], ◌++◌, List, length, take, drop, decimal, IfSome, IfNone};
+ghost use Rattle.std.specs.Prelude.{◌≡◌, ℕ, ◌+◌, ◌-◌, ◌*◌, ◌<◌, ◌≤◌, ◌^◌, ◌++◌, length, take, drop, decimal, IfSome, IfNone};
 ghost use Rattle.std.specs.Int.{IsInRange};
 ghost use Rattle.std.specs.Str.Parse.{AllDigits, digits_value};
 ghost use Rattle.proof_lines.specs.Lines.{most_number};
-ghost use Rattle.proof_lines.specs.Reading.{IsPastDigits};
+ghost use Rattle.proof_lines.specs.Reading.{IsPastDigits, FieldOf};
 
 use offer_model::Bytes;
 
@@ -10,7 +10,7 @@ use offer_model::Bytes;
 pub const MOST_NUMBER: u128 = 324_518_553_658_426_726_783_156_020_576_256;
 
 /// The most digits of a number.
-const MOST_DIGITS: usize = 33;
+const MOST_NUMBER_DIGITS: usize = 33;
 
 /// Puts a number last, in decimal.
 pub(crate) fn push_number(number: u128, out: &mut Bytes)
@@ -52,7 +52,7 @@ fn with_digit(value: u128, digit: u8) -> u128
 /// The number that digits write.
 fn value_of_digits(digits: &[u8]) -> u128
     requires digits { AllDigits 10 digits.now }
-    requires few { length digits.now ≤ MOST_DIGITS }
+    requires few { length digits.now ≤ MOST_NUMBER_DIGITS }
     ensures { result ≡ digits_value 10 digits.now }
 {
     let mut value = 0u128;
@@ -68,7 +68,7 @@ fn number_of_digits(digits: &[u8]) -> Option<u128>
     ensures some { IfSome result (λ n. (n ≤ most_number) × (decimal n ≡ digits.now)) }
     ensures none { IfNone result ((n : ℕ) → n ≤ most_number → decimal n ≡ digits.now → ⊥) }
 {
-    if digits.is_empty() || digits.len() > MOST_DIGITS {
+    if digits.is_empty() || digits.len() > MOST_NUMBER_DIGITS {
         return None;
     }
     if digits[0] == b'0' && digits.len() > 1 {
@@ -89,16 +89,28 @@ pub(crate) struct Field {
 }
 
 /// The number that the bytes begin with.
-pub(crate) fn read_field(bytes: &[u8]) -> Option<Field>
-    ensures small { IfSome result (λ f. f.number ≤ most_number) }
-    ensures len { IfSome result (λ f. f.len ≤ length bytes.now) }
-    ensures text { IfSome result (λ f. decimal f.number ≡ take f.len bytes.now) }
-    ensures past { IfSome result (λ f. IsPastDigits (drop f.len bytes.now)) }
-    ensures none { IfNone result ((n : ℕ) (rest : List ℕ) → n ≤ most_number → IsPastDigits rest → decimal n ++ rest ≡ bytes.now → ⊥) }
+pub(crate) fn read_front(bytes: &[u8]) -> Option<Field>
+    ensures { FieldOf bytes.now result }
 {
     let len = digit_count(bytes);
     match number_of_digits(&bytes[..len]) {
         Some(number) => Some(Field { number, len }),
         None => None,
     }
+}
+
+/// The bytes from a place on.
+pub(crate) fn rest_from(bytes: &[u8], from: usize) -> &[u8]
+    requires { from ≤ length bytes.now }
+    ensures { result.now ≡ drop from bytes.now }
+{
+    &bytes[from..]
+}
+
+/// The number that stands at a place.
+pub(crate) fn read_field(bytes: &[u8], from: usize) -> Option<Field>
+    requires { from ≤ length bytes.now }
+    ensures { FieldOf (drop from bytes.now) result }
+{
+    read_front(rest_from(bytes, from))
 }

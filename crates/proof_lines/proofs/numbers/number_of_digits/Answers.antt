@@ -18,6 +18,8 @@ returns-then-value-gt-MOST_NUMBER-clause-none c = λ n l e. too_great n c.args.d
 
 pub returns-clause-some : goal.returns-clause-some
 returns-clause-some c =
-    let some : 0 < length c.args.digits.now = grind (arith, nat_tests, c.is_empty.ensures, c.if-is_empty.false) in
-    (omega arith, rw c.value_of_digits-value.ensures
-      (decimal-digits_value c.args.digits.now c.requires some (omega arith) (λ h. ⊎_elim (λ k. k.1) (λ k. absurd (k h)) c.else-digits-eq48.either)))
+    let some : 0 < length c.args.digits.now = grind (arith, nat_tests, c.is_empty.ensures, c.if-is_empty.false) in (
+      omega arith,
+      rw c.value_of_digits-value.ensures
+          (decimal-digits_value c.args.digits.now c.requires some (omega arith) (λ h. ⊎_elim (λ k. k.1) (λ k. absurd (k h)) c.else-digits-eq48.either)),
+    )

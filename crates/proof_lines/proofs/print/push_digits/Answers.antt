@@ -10,6 +10,6 @@ loop-k-preserved c =
     let same = get_or_from_slice_get c.args.digits.now.items c.loop-k.k c.get.result.now 0 c.get.ensures in
     record {
       items = rw (c.push.ensures.items, c.byte_of_digit.ensures, more, same, c.loop-k.invariant.items)
-        (append_assoc c.args.out.now.items (map (λ d. 48 + d) (take c.loop-k.k c.args.digits.now.items)) ((48 + c.get.result.now) ∷ []));
+          (append_assoc c.args.out.now.items (map (λ d. 48 + d) (take c.loop-k.k c.args.digits.now.items)) ((48 + c.get.result.now) ∷ []));
       spare = omega arith;
     }

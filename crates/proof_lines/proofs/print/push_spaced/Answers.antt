@@ -21,6 +21,6 @@ loop-k-preserved c =
     let len = length-spaced_drop c.args.numbers.now.items c.loop-k.k c.get.result.now inside c.get.ensures in
     record {
       items = rw (c.push_number.ensures.items, c.push.ensures.items)
-        (spaced-push c.loop-k.out.items (c.args.out.now.items ++ spaced c.args.numbers.now.items) c.args.numbers.now.items c.loop-k.k c.get.result.now inside c.get.ensures c.loop-k.invariant.items);
+          (spaced-push c.loop-k.out.items (c.args.out.now.items ++ spaced c.args.numbers.now.items) c.args.numbers.now.items c.loop-k.k c.get.result.now inside c.get.ensures c.loop-k.invariant.items);
       spare = omega arith;
     }

@@ -1,8 +1,0 @@
-use Rattle.std.proofs.Common.{◌≡◌, ◌++◌, take, drop, sym, ◌∙◌}
-use Rattle.std.proofs.lemmas.List.{take-append-drop}
-use Rattle.proof_lines.proofs.NumberLemmas.{field_front}
-use Rattle.proof_lines.proofs.numbers.read_field.Goals as goal
-
-pub returns-in-None-clause-none : goal.returns-in-None-clause-none
-returns-in-None-clause-none c = λ n rest l past e.
-    c.in-None.ensures.none n l (field_front n rest c.digit_count-len.result c.args.bytes.now l past c.digit_count-len.ensures.digits c.digit_count-len.ensures.past e)
