@@ -7,3 +7,5 @@ pub mod FeedLemmas
 pub mod ProofsDiffer
 pub mod ReadLemmas
 pub mod ValueLemmas
+pub mod RejectionLemmas
+pub mod WorkedProofs

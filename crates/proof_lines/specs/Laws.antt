@@ -6,9 +6,9 @@ use Rattle.offer_model.specs.Chains.{ChainData}
 use Rattle.offer_model.specs.Stopping.{StoppingData}
 use Rattle.offer_model.specs.Claims.{IsBracketed}
 use Rattle.proof_lines.specs.declared.line.Shape.{Shape}
-use Rattle.proof_lines.specs.Lines.{IsLine, line_text}
+use Rattle.proof_lines.specs.Lines.{IsLine, line_text, AreLines, text_of}
 use Rattle.proof_lines.specs.Trees.{Tree, ProofData, IsProof}
-use Rattle.proof_lines.specs.Acceptance.{IsAccepted, IsAcceptedChain}
+use Rattle.proof_lines.specs.Acceptance.{IsAccepted, IsAcceptedChain, chain_lines}
 
 -- The assortment of an accepted text is the best one.
 abbrev pub AcceptedIsBest : Type 0
@@ -21,6 +21,10 @@ AcceptedIsBracketed = (c : ChainData) (text : List ℕ) (s : StoppingData) → I
 -- Two lines of one text are one line.
 abbrev pub LinesDiffer : Type 0
 LinesDiffer = (s t : Shape) (ns ms : List ℕ) → IsLine s ns → IsLine t ms → line_text s ns ≡ line_text t ms → (s ≡ t) × (ns ≡ ms)
+
+-- Two certificates of a chain with one text are one certificate.
+abbrev pub ChainProofsDiffer : Type 0
+ChainProofsDiffer = (s t : StoppingData) → AreLines (chain_lines s) → AreLines (chain_lines t) → text_of (chain_lines s) ≡ text_of (chain_lines t) → s ≡ t
 
 -- Two proofs of one text are one proof.
 abbrev pub ProofsDiffer : Type 0

@@ -4,3 +4,4 @@ pub mod Trees
 pub mod Closing
 pub mod Acceptance
 pub mod Laws
+pub mod WorkedProofs

@@ -1,6 +1,7 @@
 //! What is proved of certificates: each function's contract is a law, and its body is empty.
 
-ghost use Rattle.proof_lines.specs.Laws.{AcceptedIsBest, AcceptedIsBracketed, LinesDiffer, ProofsDiffer};
+ghost use Rattle.proof_lines.specs.Laws.{AcceptedIsBest, AcceptedIsBracketed, LinesDiffer, ProofsDiffer, ChainProofsDiffer};
+ghost use Rattle.proof_lines.specs.WorkedProofs.{WorkedProofs};
 
 /// Whoever wrote a text that is accepted for a problem, its assortment is the best one.
 pub fn accepted_is_best()
@@ -21,4 +22,14 @@ pub fn lines_differ()
 /// A text is the proof of at most one header and tree.
 pub fn proofs_differ()
     ensures { ProofsDiffer }
+{}
+
+/// A text is the certificate of a chain for at most one assortment, two bounds and two vectors.
+pub fn chain_proofs_differ()
+    ensures { ChainProofsDiffer }
+{}
+
+/// The worked certificates are accepted, and their broken forms aren't.
+pub fn worked_proofs()
+    ensures { WorkedProofs }
 {}
