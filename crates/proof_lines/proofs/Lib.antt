@@ -9,3 +9,4 @@ pub mod ReadLemmas
 pub mod ValueLemmas
 pub mod RejectionLemmas
 pub mod WorkedProofs
+pub mod ShortLines

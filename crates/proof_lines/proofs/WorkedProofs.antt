@@ -20,16 +20,20 @@ use Rattle.offer_model.specs.Nodes.{open_node, fill_of, settled_mark, Clashes, C
 use Rattle.offer_model.specs.Prices.{Prices, greatest_worth, prices_above}
 use Rattle.offer_model.specs.LeafBounds.{MultipliersFit, IsMultiplier, priced_limit_at, SegmentsFit, is_limited, ladder_of, IsUsable, PotentialsFit}
 use Rattle.proof_lines.specs.Lines.{LineData, line, line_text, IsLine, IsLineText, AreLines, AreNumbers, spaced, text_of}
-use Rattle.proof_lines.specs.Lines.IsValue.{whole, ratio}
+use Rattle.proof_lines.specs.Lines.IsValue.{whole, ratio, bounds}
 use Rattle.proof_lines.specs.Reading.{shape_by_head}
 use Rattle.proof_lines.specs.Trees.{Tree, IsProof, lines_of}
 use Rattle.proof_lines.specs.Trees.Tree.{leaf, branch}
 use Rattle.proof_lines.specs.Closing.{TreeCloses, own_prices}
-use Rattle.proof_lines.specs.Acceptance.{proof_of, IsAccepted, Accepts}
-use Rattle.proof_lines.specs.WorkedProofs.{joined, free_pair, free_header, FreePair, FreePairBroken, capped_pair, capped_text, CappedPair, required_chain, required_text, RequiredChain, mixed_pair, MixedPair, shelf_of_three, ShelfOfThree, ladder_of_three, ladder_text, LadderOfThree, WorkedProofs}
+use Rattle.proof_lines.specs.Acceptance.{proof_of, IsAccepted, Accepts, chain_lines, Brackets, IsAcceptedChain, AcceptsChain}
+use Rattle.proof_lines.specs.WorkedProofs.{joined, free_pair, free_header, FreePair, FreePairBroken, capped_pair, capped_text, CappedPair, required_chain, required_text, RequiredChain, mixed_pair, MixedPair, shelf_of_three, ShelfOfThree, ladder_of_three, ladder_text, LadderOfThree, walk_of_three, walk_text, WalkOfThree, WorkedProofs}
 use Rattle.proof_lines.proofs.NumberLemmas.{digits_split, leading_zero}
 use Rattle.proof_lines.proofs.SpacedLemmas.{spaced_past}
 use Rattle.proof_lines.proofs.LinesDiffer.{shape_is}
+use Rattle.offer_model.specs.Chains.{ChainData, moved}
+use Rattle.offer_model.specs.Stopping.{StoppingData, own_value, value_bound}
+use Rattle.offer_model.specs.Brackets.{BoundsAbove, BoundsBelow}
+use Rattle.proof_lines.proofs.ProofsDiffer.{chain_proofs_differ}
 use Rattle.proof_lines.proofs.RejectionLemmas.{tree_rejects, count_rejects, piece_rejects}
 
 -- ---- Lists of one, two and three.
@@ -392,6 +396,61 @@ ladder_worked = ((ladder_set, ladder_tree 4, record {
   closed = ladder_closes;
 }), tree_rejects ladder_of_three (ladder_text (codes "p 0 0 3")) ladder_set (ladder_tree 3) ladder_3 ladder_open)
 
+-- ---- A chain.
+
+abbrev walk : ℕ → StoppingData
+walk up = record { set = true ∷ false ∷ false ∷ []; lo = 1111111; up = up; upper = 10000000 ∷ up ∷ 3333334 ∷ []; lower = 10000000 ∷ 1111111 ∷ 3333333 ∷ [] }
+
+walk_lines : (up : ℕ) → up ≤ 2 ^ 108 → AreLines (chain_lines (walk up))
+walk_lines up h = (refl, (refl, ((lit≤ tt, (lit< tt, (lit< tt, (lit< tt, tt)))), (bounds (lit≤ tt) h, ((lit≤ tt, (h, (lit≤ tt, tt))), ((lit≤ tt, (lit≤ tt, (lit≤ tt, tt))), (refl, tt)))))))
+
+walk_accepted_text : walk_text (codes "value 1111111 1111112") (codes "u 10000000 1111112 3333334") ≡ text_of (chain_lines (walk 1111112))
+unfolding digits
+walk_accepted_text = refl
+
+walk_rejected_text : walk_text (codes "value 1111111 1111111") (codes "u 10000000 1111111 3333334") ≡ text_of (chain_lines (walk 1111111))
+unfolding digits
+walk_rejected_text = refl
+
+walk_above : BoundsAbove walk_of_three ((walk 1111112).upper)
+walk_above = record {
+  each = refl;
+  margin = at_three (λ i. own_value walk_of_three i ≤ slice_index (walk 1111112).upper i) (lit≤ tt) (lit≤ tt) (lit≤ tt);
+  moves = at_three (λ i. moved walk_of_three i (slice_index (walk 1111112).upper) ≤ 3 * slice_index (walk 1111112).upper i) (lit≤ tt) (lit≤ tt) (lit≤ tt);
+}
+
+walk_below : BoundsBelow walk_of_three (true ∷ false ∷ false ∷ []) ((walk 1111112).lower)
+walk_below = record {
+  each = refl;
+  small = at_three (λ i. slice_index (walk 1111112).lower i ≤ value_bound walk_of_three) (lit≤ tt) (lit≤ tt) (lit≤ tt);
+  margin = at_three (λ i. offers (true ∷ false ∷ false ∷ []) i ≡ true → slice_index (walk 1111112).lower i ≤ own_value walk_of_three i) (λ h. lit≤ tt) (λ h. cc) (λ h. cc);
+  moves = at_three (λ i. offers (true ∷ false ∷ false ∷ []) i ≡ false → 3 * slice_index (walk 1111112).lower i ≤ moved walk_of_three i (slice_index (walk 1111112).lower)) (λ h. cc) (λ h. lit≤ tt) (λ h. lit≤ tt);
+}
+
+walk_brackets : Brackets walk_of_three (walk 1111112)
+walk_brackets = record {
+  each = refl;
+  small = at_three (λ i. slice_index (walk 1111112).upper i ≤ 10 ^ 15) (lit≤ tt) (lit≤ tt) (lit≤ tt);
+  above = walk_above;
+  below = walk_below;
+  up = refl;
+  lo = refl;
+  ordered = lit≤ tt;
+  near = lit≤ tt;
+}
+
+walk_open : Brackets walk_of_three (walk 1111111) → ⊥
+walk_open k = let low : 3333334 ≤ 3333333 = k.above.moves 1 (lit< tt) in absurd (omega arith)
+
+walk_rejected : AcceptsChain walk_of_three (walk_text (codes "value 1111111 1111111") (codes "u 10000000 1111111 3333334")) → ⊥
+walk_rejected k =
+    let same = chain_proofs_differ k.0 (walk 1111111) k.1.lines (walk_lines 1111111 (lit≤ tt)) (sym k.1.whole ∙ walk_rejected_text) in
+    let P : StoppingData → Type 0 = λ s. Brackets walk_of_three s in
+    walk_open (subst P same k.1.brackets)
+
+pub walk_worked : WalkOfThree
+walk_worked = ((walk 1111112, record { lines = walk_lines 1111112 (lit≤ tt); whole = walk_accepted_text; brackets = walk_brackets }), walk_rejected)
+
 -- ---- All of them.
 
 pub worked_proofs : WorkedProofs
@@ -403,4 +462,5 @@ worked_proofs = record {
   mixed_pair = mixed_worked;
   shelf_of_three = shelf_worked;
   ladder_of_three = ladder_worked;
+  walk_of_three = walk_worked;
 }

@@ -1,14 +1,16 @@
 -- What is proved of certificates, as statements.
-use Rattle.std.specs.Prelude.{◌≡◌, ℕ, Bool, List}
-use Rattle.offer_model.specs.Problems.{ProblemData}
+use Rattle.std.specs.Prelude.{◌≡◌, ℕ, ◌<◌, ◌≤◌, Bool, List, length}
+use Rattle.std.specs.List.{AllByRecursion}
+use Rattle.offer_model.specs.Problems.{ProblemData, product_count}
+use Rattle.offer_model.specs.LeafBounds.{priced_limits}
 use Rattle.offer_model.specs.Best.{IsBest}
-use Rattle.offer_model.specs.Chains.{ChainData}
+use Rattle.offer_model.specs.Chains.{ChainData, place_count}
 use Rattle.offer_model.specs.Stopping.{StoppingData}
 use Rattle.offer_model.specs.Claims.{IsBracketed}
 use Rattle.proof_lines.specs.declared.line.Shape.{Shape}
-use Rattle.proof_lines.specs.Lines.{IsLine, line_text, AreLines, text_of}
-use Rattle.proof_lines.specs.Trees.{Tree, ProofData, IsProof}
-use Rattle.proof_lines.specs.Acceptance.{IsAccepted, IsAcceptedChain, chain_lines}
+use Rattle.proof_lines.specs.Lines.{LineData, IsLine, line_text, AreLines, text_of}
+use Rattle.proof_lines.specs.Trees.{Tree, ProofData, lines_of, IsProof}
+use Rattle.proof_lines.specs.Acceptance.{proof_of, IsAccepted, IsAcceptedChain, chain_lines}
 
 -- The assortment of an accepted text is the best one.
 abbrev pub AcceptedIsBest : Type 0
@@ -29,3 +31,18 @@ ChainProofsDiffer = (s t : StoppingData) → AreLines (chain_lines s) → AreLin
 -- Two proofs of one text are one proof.
 abbrev pub ProofsDiffer : Type 0
 ProofsDiffer = (d e : ProofData) (text : List ℕ) → IsProof d text → IsProof e text → d ≡ e
+
+-- The line's text is shorter than 40,000 bytes.
+abbrev pub IsShort : LineData → Type 0
+IsShort l = length (line_text l.shape l.numbers) < 40000
+
+-- No line of an accepted text is longer, where the problem is small.
+abbrev pub AcceptedLinesAreShort : Type 0
+AcceptedLinesAreShort = (p : ProblemData) (text : List ℕ) (x : List Bool) (tree : Tree)
+    → product_count p ≤ 512 → length (priced_limits p) ≤ 1024 → length p.segments ≤ 1024
+    → IsAccepted p text x tree → AllByRecursion IsShort (lines_of (proof_of p x tree))
+
+-- Nor of an accepted text of a chain.
+abbrev pub AcceptedChainLinesAreShort : Type 0
+AcceptedChainLinesAreShort = (c : ChainData) (text : List ℕ) (s : StoppingData)
+    → place_count c ≤ 512 → IsAcceptedChain c text s → AllByRecursion IsShort (chain_lines s)

@@ -6,7 +6,8 @@ use Rattle.offer_model.specs.declared.products.Product.{Product}
 use Rattle.offer_model.specs.declared.products.Limit.{Limit}
 use Rattle.offer_model.specs.declared.products.Limit.TheVariants.{Total, Requires, Shelf, Ladder}
 use Rattle.offer_model.specs.Problems.{ProblemData}
-use Rattle.proof_lines.specs.Acceptance.{Accepts}
+use Rattle.offer_model.specs.Chains.{ChainData}
+use Rattle.proof_lines.specs.Acceptance.{Accepts, AcceptsChain}
 
 -- Texts of lines, each with a line feed after it.
 abbrev pub joined : List (List ℕ) → List ℕ
@@ -106,6 +107,27 @@ ladder_text leaf = joined (codes "assort-proof 1" ∷ codes "model logit" ∷ co
 abbrev pub LadderOfThree : Type 0
 LadderOfThree = Accepts ladder_of_three (ladder_text (codes "p 0 0 4")) × ¬ Accepts ladder_of_three (ladder_text (codes "p 0 0 3"))
 
+-- ---- A chain of three products: margins 10, 0 and 0, all customers arrive at the second, and of three parts one moves
+-- from the second to the third and one from there to the first.
+
+abbrev pub walk_of_three : ChainData
+walk_of_three = record {
+  scale = 3;
+  away = 0;
+  margins = 10 ∷ 0 ∷ 0 ∷ [];
+  arrivals = 0 ∷ 1 ∷ 0 ∷ [];
+  arcs = record { from = 1; to = 2; parts = 1 } ∷ record { from = 2; to = 0; parts = 1 } ∷ [];
+}
+
+abbrev pub walk_text : List ℕ → List ℕ → List ℕ
+walk_text value upper = joined (codes "assort-proof 1" ∷ codes "model chain" ∷ codes "set 100" ∷ value ∷ upper
+  ∷ codes "h 10000000 1111111 3333333" ∷ codes "end" ∷ [])
+
+-- Three times 1111111 is below 3333334.
+abbrev pub WalkOfThree : Type 0
+WalkOfThree = AcceptsChain walk_of_three (walk_text (codes "value 1111111 1111112") (codes "u 10000000 1111112 3333334"))
+  × ¬ AcceptsChain walk_of_three (walk_text (codes "value 1111111 1111111") (codes "u 10000000 1111111 3333334"))
+
 -- ---- All of them.
 
 pub record WorkedProofs : Type 0 where
@@ -116,3 +138,4 @@ pub record WorkedProofs : Type 0 where
   pub mixed_pair : MixedPair
   pub shelf_of_three : ShelfOfThree
   pub ladder_of_three : LadderOfThree
+  pub walk_of_three : WalkOfThree

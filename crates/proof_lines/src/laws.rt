@@ -1,6 +1,6 @@
 //! What is proved of certificates: each function's contract is a law, and its body is empty.
 
-ghost use Rattle.proof_lines.specs.Laws.{AcceptedIsBest, AcceptedIsBracketed, LinesDiffer, ProofsDiffer, ChainProofsDiffer};
+ghost use Rattle.proof_lines.specs.Laws.{AcceptedIsBest, AcceptedIsBracketed, LinesDiffer, ProofsDiffer, ChainProofsDiffer, AcceptedLinesAreShort, AcceptedChainLinesAreShort};
 ghost use Rattle.proof_lines.specs.WorkedProofs.{WorkedProofs};
 
 /// Whoever wrote a text that is accepted for a problem, its assortment is the best one.
@@ -32,4 +32,14 @@ pub fn chain_proofs_differ()
 /// The worked certificates are accepted, and their broken forms aren't.
 pub fn worked_proofs()
     ensures { WorkedProofs }
+{}
+
+/// No line of a text that is accepted for a problem of at most 512 products is longer than 40,000 bytes.
+pub fn accepted_lines_are_short()
+    ensures { AcceptedLinesAreShort }
+{}
+
+/// Nor is one of a text that is accepted for a chain of at most 512 products.
+pub fn accepted_chain_lines_are_short()
+    ensures { AcceptedChainLinesAreShort }
 {}
