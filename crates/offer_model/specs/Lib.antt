@@ -15,3 +15,5 @@ pub mod Moves
 pub mod Stopping
 pub mod Claims
 pub mod Brackets
+pub mod Branching
+pub mod NodeValues

@@ -10,3 +10,4 @@ pub mod ValueLemmas
 pub mod RejectionLemmas
 pub mod WorkedProofs
 pub mod ShortLines
+pub mod WrittenOnce

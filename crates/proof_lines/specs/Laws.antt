@@ -1,5 +1,7 @@
 -- What is proved of certificates, as statements.
-use Rattle.std.specs.Prelude.{◌≡◌, ℕ, ◌<◌, ◌≤◌, Bool, List, length}
+use Rattle.std.specs.Prelude.{◌≡◌, ℕ, ◌+◌, ◌<◌, ◌≤◌, ⊤, Bool, List, length, Some, None}
+use Rattle.offer_model.specs.declared.products.ModelName.{ModelName}
+use Rattle.offer_model.specs.declared.products.ModelName.TheVariants.{Logit, Attract, Mixed, Chain}
 use Rattle.std.specs.List.{AllByRecursion}
 use Rattle.offer_model.specs.Problems.{ProblemData, product_count}
 use Rattle.offer_model.specs.LeafBounds.{priced_limits}
@@ -10,6 +12,8 @@ use Rattle.offer_model.specs.Claims.{IsBracketed}
 use Rattle.proof_lines.specs.declared.line.Shape.{Shape}
 use Rattle.proof_lines.specs.Lines.{LineData, IsLine, line_text, AreLines, text_of}
 use Rattle.proof_lines.specs.Trees.{Tree, ProofData, lines_of, IsProof}
+use Rattle.proof_lines.specs.Trees.Tree.{leaf, branch}
+use Rattle.proof_lines.specs.Writing.{exact_leaf, IsWrittenBy, IsWritten, IsWrittenChain}
 use Rattle.proof_lines.specs.Acceptance.{proof_of, IsAccepted, IsAcceptedChain, chain_lines}
 
 -- The assortment of an accepted text is the best one.
@@ -46,3 +50,36 @@ AcceptedLinesAreShort = (p : ProblemData) (text : List ℕ) (x : List Bool) (tre
 abbrev pub AcceptedChainLinesAreShort : Type 0
 AcceptedChainLinesAreShort = (c : ChainData) (text : List ℕ) (s : StoppingData)
     → place_count c ≤ 512 → IsAcceptedChain c text s → AllByRecursion IsShort (chain_lines s)
+
+-- ---- What the writers' forms fix.
+
+abbrev pub branch_count : Tree → ℕ
+branch_count (leaf shape ns) = 0
+branch_count (branch i inside outside) = 1 + branch_count inside + branch_count outside
+
+-- Under logit and generalised attraction with limits of one kind the tree is a path.
+abbrev pub IsPathUnder : ModelName → ProblemData → Shape → Type 0
+IsPathUnder Logit p shape = exact_leaf p.limits ≡ Some shape
+IsPathUnder Attract p shape = exact_leaf p.limits ≡ Some shape
+IsPathUnder Mixed p shape = ⊥
+IsPathUnder Chain p shape = ⊥
+
+-- Such a tree has at most as many branches as there are products.
+abbrev pub PathsAreShort : Type 0
+PathsAreShort = (p : ProblemData) (text : List ℕ) (x : List Bool) (tree : Tree) (shape : Shape)
+    → IsPathUnder p.model p shape → IsWrittenBy p text x tree → branch_count tree ≤ product_count p
+
+-- With limits of several kinds, and under mixed logit, the tree is a search's.
+abbrev pub IsFixedUnder : ModelName → ProblemData → Type 0
+IsFixedUnder Logit p = exact_leaf p.limits ≡ None
+IsFixedUnder Attract p = exact_leaf p.limits ≡ None
+IsFixedUnder Mixed p = ⊤
+IsFixedUnder Chain p = ⊥
+
+-- There is then one text at most.
+abbrev pub SearchesWriteOnce : Type 0
+SearchesWriteOnce = (p : ProblemData) (a b : List ℕ) → IsFixedUnder p.model p → IsWritten p a → IsWritten p b → a ≡ b
+
+-- And one for a chain.
+abbrev pub ChainsWriteOnce : Type 0
+ChainsWriteOnce = (c : ChainData) (a b : List ℕ) → IsWrittenChain c a → IsWrittenChain c b → a ≡ b

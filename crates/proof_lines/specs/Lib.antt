@@ -3,5 +3,6 @@ pub mod Reading
 pub mod Trees
 pub mod Closing
 pub mod Acceptance
-pub mod Laws
 pub mod WorkedProofs
+pub mod Writing
+pub mod Laws

@@ -1,6 +1,6 @@
 //! What is proved of certificates: each function's contract is a law, and its body is empty.
 
-ghost use Rattle.proof_lines.specs.Laws.{AcceptedIsBest, AcceptedIsBracketed, LinesDiffer, ProofsDiffer, ChainProofsDiffer, AcceptedLinesAreShort, AcceptedChainLinesAreShort};
+ghost use Rattle.proof_lines.specs.Laws.{AcceptedIsBest, AcceptedIsBracketed, LinesDiffer, ProofsDiffer, ChainProofsDiffer, AcceptedLinesAreShort, AcceptedChainLinesAreShort, PathsAreShort, SearchesWriteOnce, ChainsWriteOnce};
 ghost use Rattle.proof_lines.specs.WorkedProofs.{WorkedProofs};
 
 /// Whoever wrote a text that is accepted for a problem, its assortment is the best one.
@@ -42,4 +42,19 @@ pub fn accepted_lines_are_short()
 /// Nor is one of a text that is accepted for a chain of at most 512 products.
 pub fn accepted_chain_lines_are_short()
     ensures { AcceptedChainLinesAreShort }
+{}
+
+/// With limits of one kind a written proof has at most as many branches as there are products.
+pub fn paths_are_short()
+    ensures { PathsAreShort }
+{}
+
+/// With limits of several kinds, and under mixed logit, one text at most is written.
+pub fn searches_write_once()
+    ensures { SearchesWriteOnce }
+{}
+
+/// For a chain one text at most is written.
+pub fn chains_write_once()
+    ensures { ChainsWriteOnce }
 {}
