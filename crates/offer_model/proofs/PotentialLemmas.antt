@@ -59,7 +59,7 @@ sum_single (suc n) s f i l t one = elim (s n) as (λ v. s n ≡ v → sum_where 
     last : (i n : ℕ) → i < suc n → (i ≡ n → ⊥) → i < n
     last i n l h = omega arith
 
--- what holds below n and at n holds below n + 1
+-- What holds below n and at n holds below n + 1.
 by_last : (P : ℕ → Type 0) (n : ℕ) → ((i : ℕ) → i < n → P i) → P n → (i : ℕ) → i < suc n → P i
 by_last P n below here i l = elim (ltb i n) as (λ v. ltb i n ≡ v → P i) [
   | true ↦ λ e. below i (grind (arith, nat_tests))
@@ -111,7 +111,7 @@ module _ (n : ℕ) (s : ℕ → Bool) (price : ℕ → ℤ) (grade cost top : �
     from : ℕ → ℕ → Bool
     from m i = s i && leb m (grade i)
 
-    -- nothing, or the number of a product of that grade or a higher one bounds it
+    -- The products of grade m or a higher one bring nothing, or at most the number of one of them.
     Rises : ℕ → Type 0
     Rises m = (sum_where n (from m) price ≤ℤ pos 0) ⊎ ((i : ℕ) × (i < n) × (s i ≡ true) × (m ≤ grade i) × (sum_where n (from m) price ≤ℤ pos (top i)))
 
@@ -131,7 +131,7 @@ module _ (n : ℕ) (s : ℕ → Bool) (price : ℕ → ℤ) (grade cost top : �
     differ : (m i j : ℕ) → grade i < grade j → i ≢ j
     differ m i j h e = let k = ap grade e in omega arith
 
-    -- the product of grade m goes before the ones above it
+    -- The product of grade m goes before those of higher grades.
     with_one : (m i : ℕ) → i < n → at m i ≡ true → Rises (suc m) → Rises m
     unfolding at from Rises
     with_one m i l t r =
@@ -166,7 +166,7 @@ module _ (n : ℕ) (s : ℕ → Bool) (price : ℕ → ℤ) (grade cost top : �
         (λ none. without_one m none (rises d (suc m) (λ i l. let k = h i l in omega arith)))
         (find n (at m))
 
-    -- what the set brings, at most the greatest number
+    -- All together bring at most the greatest number.
     brings : (most : ℕ) → ((i : ℕ) → i < n → s i ≡ true → top i ≤ most) → sum_where n s price ≤ℤ pos most
     unfolding from Rises
     brings most h =
@@ -198,7 +198,7 @@ is_open-true In h = cc
 is_open-true Out h = cc
 is_open-true Open h = refl
 
--- what a completion has beside the fixed part: offered products, Open at the node, in limited ladders
+-- What a completion adds to the fixed part: offered products that are Open at the node and on limited ladders.
 abbrev chosen : ProblemData → List Mark → List Bool → ℕ → Bool
 chosen p node y i = offers y i && (is_open (settled_mark p node i) && is_limited p.limits (ladder_of p i))
 
@@ -240,7 +240,7 @@ module _ (p : ProblemData) (node : List Mark) (us : List ℕ) (price : ℕ → �
   one_ladder l s m ch la = brings (product_count p) s price (λ i. (product_at p i).grade) (λ i. (product_at p i).price) (λ i. slice_index us i)
       (λ i li t. k.alone i li (usable i l li (ch i li t) (la i li t) m))
       (λ i j li lj ti tj d. m i j li lj d (and_left (offers y i) _ (ch i li ti)) (and_left (offers y j) _ (ch j lj tj)) (la i li ti) (la j lj tj))
-      (λ i j li lj ti tj g q. k.chained i j li lj (usable i l li (ch i li ti) (la i li ti) m) (usable j l lj (ch j lj tj) (la j lj tj) m) (la i li ti ∙ sym (la j lj tj)) g q)
+      (λ i j li lj ti tj g q. k.chained i j li lj (usable i l li (ch i li ti) (la i li ti) m) (usable j l lj (ch j lj tj) (la j lj tj) m) (la i li ti ∙ sym (la j lj tj)) (g, q))
       (ladder_top p us l (product_count p))
       (λ i li t. top_le p us l (product_count p) i li (la i li t))
 

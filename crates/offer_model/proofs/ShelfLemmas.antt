@@ -20,7 +20,7 @@ use Rattle.offer_model.specs.LeafBounds.{greater_of, raised_by, leaving_out, off
 use Rattle.offer_model.proofs.CompletionLemmas.{Completes-agrees, settled_completes}
 use Rattle.std.proofs.lemmas.List.Elements.{recursion_from_All}
 
--- there is a value_of, at least this
+-- There is a sum, and it is at least this.
 abbrev pub Reaches : Option ℤ → ℤ → Type 0
 Reaches None w = ⊥
 Reaches (Some z) w = w ≤ℤ z

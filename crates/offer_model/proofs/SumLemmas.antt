@@ -15,7 +15,7 @@ sum_mono (suc n) f g h =
     let here = h n (omega arith) in
     omega (arith, ints)
 
--- a sum that has one term: u at place a, where y holds there
+-- A sum that has one term: u at product a, where y is true there.
 abbrev pub point : ℕ → (ℕ → Bool) → ℕ → ℕ → ℕ
 point n y u a = sum_below n (λ i. cond (y i) (cond (eqb i a) u 0) 0)
 
@@ -40,7 +40,7 @@ pub over_same : (n : ℕ) (y : ℕ → Bool) (f g : ℕ → ℕ) → ((i : ℕ) 
 over_same zero y f g e = refl
 over_same (suc n) y f g e = let before = over_same n y f g e in let here = e n in rw (before, here) refl
 
--- prices that are raised and lowered, summed
+-- Prices that are raised and lowered, summed.
 pub sum_moved : (n : ℕ) (y : ℕ → Bool) (price : ℕ → ℤ) (up down : ℕ → ℕ)
     → int_sum_below n (λ i. cond (y i) ((price i +ℤ pos (up i)) -ℤ pos (down i)) (pos 0)) +ℤ pos (over n y down)
     ≡ int_sum_below n (λ i. cond (y i) (price i) (pos 0)) +ℤ pos (over n y up)

@@ -14,7 +14,7 @@ use Rattle.offer_model.proofs.CompletionLemmas.{worth_of-le}
 use Rattle.offer_model.proofs.SumLemmas.{sum_le}
 use Rattle.std.proofs.Math.Nat.{div-lt_iff_lt-mul}
 
--- place by place: what is offered, and the shadows of all
+-- Product by product: what is offered, and the shadows of all.
 sums_at : (n : ℕ) (y : ℕ → Bool) (r v w : ℕ → ℕ) (num den : ℕ)
     → int_sum_below n (λ i. cond (y i) (pos (den * (r i * v i) + num * w i) -ℤ pos (num * v i)) (pos 0)) +ℤ pos (num * sum_below n (λ i. cond (y i) (v i) (w i)))
     ≡ pos (den * sum_below n (λ i. cond (y i) (r i * v i) 0)) +ℤ pos (num * sum_below n (λ i. w i))
@@ -26,14 +26,14 @@ sums_at (suc n) y r v w num den =
     ≡ pos (den * (sum_below n (λ i. cond (y i) (r i * v i) 0) + cond b (r n * v n) 0)) +ℤ pos (num * (sum_below n (λ i. w i) + w n)))
     [ true ↦ omega (arith, ints) | false ↦ omega (arith, ints) ]
 
--- the worth_of of y at num over den is den * gain_of - num * weight_of
+-- At the revenue num / den an assortment is worth den times its gain less num times its weight.
 pub worth_is : (p : ProblemData) (num den : ℕ) (y : List Bool)
     → worth_of p (prices_at p num den) y +ℤ pos (num * weight_of p (first_segment p) y) ≡ pos (den * gain_of p (first_segment p) y)
 worth_is p num den y =
     let e = sums_at (product_count p) (offers y) (margin_of p) (attraction_of (first_segment p)) (shadow_of (first_segment p)) num den in
     omega (arith, ints)
 
--- the same for one segment, where what isn't offered weighs nothing or more
+-- The same for one segment, where what isn't offered weighs nothing or more.
 sums_above : (n : ℕ) (y : ℕ → Bool) (r v w : ℕ → ℕ) (c u : ℕ)
     → pos (c * sum_below n (λ i. cond (y i) (r i * v i) 0))
     ≤ℤ (int_sum_below n (λ i. cond (y i) (pos (c * (r i * v i)) -ℤ pos (u * v i)) (pos 0)) +ℤ pos (u * sum_below n (λ i. cond (y i) (v i) (w i))))

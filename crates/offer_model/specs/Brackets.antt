@@ -1,4 +1,5 @@
--- Vectors that bracket what customers of a chain bring: one number for each product, in millionths of a margin unit. Own.
+-- Vectors that bracket what customers of a chain bring: one number for each product, in millionths of a margin
+-- unit. Own.
 use Rattle.std.specs.Prelude.{◌≡◌, ℕ, ◌*◌, ◌<◌, ◌≤◌, Bool, true, false, List, length, slice_index}
 use Rattle.offer_model.specs.Assortments.{offers}
 use Rattle.offer_model.specs.Chains.{ChainData, place_count, moved}
@@ -17,4 +18,5 @@ pub record BoundsBelow (c : ChainData) (x : List Bool) (hs : List ℕ) : Type 0 
   pub each : length hs ≡ place_count c
   pub small : (i : ℕ) → i < place_count c → slice_index hs i ≤ value_bound c
   pub margin : (i : ℕ) → i < place_count c → offers x i ≡ true → slice_index hs i ≤ own_value c i
-  pub moves : (i : ℕ) → i < place_count c → offers x i ≡ false → c.scale * slice_index hs i ≤ moved c i (slice_index hs)
+  pub moves : (i : ℕ) → i < place_count c → offers x i ≡ false
+      → c.scale * slice_index hs i ≤ moved c i (slice_index hs)

@@ -6,6 +6,7 @@ use Prim.Native.Nat.{zero, suc}
 use Rattle.std.specs.Int.{int_max}
 use Rattle.offer_model.specs.declared.node.Mark.{Mark}
 use Rattle.offer_model.specs.declared.node.Mark.TheVariants.{In, Out, Open}
+use Rattle.offer_model.specs.declared.products.Product.{Product}
 use Rattle.offer_model.specs.declared.products.Limit.{Limit}
 use Rattle.offer_model.specs.declared.products.Limit.TheVariants.{Total, Category, Requires, Shelf, Ladder}
 use Rattle.offer_model.specs.Assortments.{sum_below}
@@ -156,6 +157,10 @@ pub record IsUsable (p : ProblemData) (node : List Mark) (i : ℕ) : Type 0 wher
   pub fits : (j : ℕ) → j < product_count p → settled_mark p node j ≡ In → ladder_of p j ≡ ladder_of p i
       → MayStand (product_at p i) (product_at p j) × MayStand (product_at p j) (product_at p i)
 
+-- From a to b the grade rises and the price doesn't fall.
+abbrev pub Rises : Product → Product → Type 0
+Rises a b = (a.grade < b.grade) × (a.price ≤ b.price)
+
 -- Each number is at least what any rise on its ladder brings that begins with its product: products of rising grade
 -- and no fall of price.
 pub record PotentialsFit (p : ProblemData) (node : List Mark) (price : ℕ → ℤ) (us : List ℕ) : Type 0 where
@@ -163,7 +168,7 @@ pub record PotentialsFit (p : ProblemData) (node : List Mark) (price : ℕ → �
   pub unused : (i : ℕ) → i < product_count p → (IsUsable p node i → ⊥) → slice_index us i ≡ 0
   pub alone : (i : ℕ) → i < product_count p → IsUsable p node i → price i ≤ℤ pos (slice_index us i)
   pub chained : (i j : ℕ) → i < product_count p → j < product_count p → IsUsable p node i → IsUsable p node j
-      → ladder_of p i ≡ ladder_of p j → (product_at p i).grade < (product_at p j).grade → (product_at p i).price ≤ (product_at p j).price
+      → ladder_of p i ≡ ladder_of p j → Rises (product_at p i) (product_at p j)
       → (price i +ℤ pos (slice_index us j)) ≤ℤ pos (slice_index us i)
 
 -- The greatest number of a product of the ladder, 0 without one.
@@ -188,8 +193,10 @@ most_beside Open true price = pos 0
 most_beside Open false price = positive_part price
 
 abbrev pub potentials_bound : ProblemData → List Mark → List ℕ → Prices → ℤ
-potentials_bound p node us at = at.constant
-    +ℤ int_sum_below (product_count p) (λ i. most_beside (settled_mark p node i) (is_limited p.limits (ladder_of p i)) (at.price i))
+potentials_bound p node us at =
+    let limited = λ (i : ℕ). is_limited p.limits (ladder_of p i) in
+    at.constant
+    +ℤ int_sum_below (product_count p) (λ i. most_beside (settled_mark p node i) (limited i) (at.price i))
     +ℤ pos (ladder_tops p us p.limits)
 
 -- ---- Segments, under mixed logit: one number for each segment, in units.
@@ -198,7 +205,8 @@ potentials_bound p node us at = at.constant
 pub record SegmentsFit (p : ProblemData) (node : List Mark) (us : List ℕ) : Type 0 where
   pub each : length us ≡ length p.segments
   pub small : (k : ℕ) → k < length us → slice_index us k ≤ 10 ^ 18
-  pub below : (k : ℕ) → k < length us → greatest_worth p node (prices_above p (segment_at p k) (slice_index us k)) <ℤ pos 0
+  pub below : (k : ℕ) → k < length us
+      → greatest_worth p node (prices_above p (segment_at p k) (slice_index us k)) <ℤ pos 0
 
 abbrev pub segments_bound : List ℕ → ℕ
 segments_bound us = sum_below (length us) (slice_index us)

@@ -8,7 +8,8 @@ use Rattle.offer_model.specs.Chains.{ChainData, moved, arriving, customer_count,
 -- What a customer at product i brings within t moves, times scale ^ t.
 abbrev pub earned_within : ChainData → List Bool → ℕ → ℕ → ℕ
 earned_within c x zero i = cond (offers x i) (slice_index c.margins i) 0
-earned_within c x (suc t) i = cond (offers x i) (slice_index c.margins i * c.scale ^ suc t) (moved c i (earned_within c x t))
+earned_within c x (suc t) i =
+    cond (offers x i) (slice_index c.margins i * c.scale ^ suc t) (moved c i (earned_within c x t))
 
 -- The chance that he still walks after t moves, times scale ^ t.
 abbrev pub walking_after : ChainData → List Bool → ℕ → ℕ → ℕ
@@ -28,7 +29,8 @@ BringsAtMost c x up = (t : ℕ) →
 -- count with the greatest margin. Since some leave at each move, these go to none.
 abbrev pub BringsAtLeast : ChainData → List Bool → ℕ → Type 0
 BringsAtLeast c x lo = (t : ℕ) →
-    lo * customer_count c * c.scale ^ t ≤ million * arriving c (earned_within c x t) + million * greatest_margin c * arriving c (walking_after c x t)
+    lo * customer_count c * c.scale ^ t
+    ≤ million * arriving c (earned_within c x t) + million * greatest_margin c * arriving c (walking_after c x t)
 
 -- The most that the two bounds of a chain may lie apart.
 abbrev pub gap_of : ChainData → ℕ

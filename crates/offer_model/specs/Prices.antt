@@ -28,7 +28,8 @@ worth_of p at y = at.constant +ℤ int_sum_below (product_count p) (λ i. cond (
 abbrev pub prices_at : ProblemData → ℕ → ℕ → Prices
 prices_at p num den = let g = first_segment p in record {
   constant = pos 0 -ℤ pos (num * (g.none + sum_below (product_count p) (shadow_of g)));
-  price = λ i. pos (den * (margin_of p i * attraction_of g i) + num * shadow_of g i) -ℤ pos (num * attraction_of g i);
+  price = λ i.
+    pos (den * (margin_of p i * attraction_of g i) + num * shadow_of g i) -ℤ pos (num * attraction_of g i);
 }
 
 -- Under mixed logit, the prices in one segment above a number of units: an assortment that is worth less than 0
@@ -52,4 +53,5 @@ most_of Open price = positive_part price
 -- The constant, the prices of what is In, and the positive prices of what is Open: with limits left aside, the
 -- greatest worth of a completion.
 abbrev pub greatest_worth : ProblemData → List Mark → Prices → ℤ
-greatest_worth p node at = at.constant +ℤ int_sum_below (product_count p) (λ i. most_of (mark_at node i) (at.price i))
+greatest_worth p node at =
+    at.constant +ℤ int_sum_below (product_count p) (λ i. most_of (mark_at node i) (at.price i))

@@ -14,7 +14,8 @@ pub record Solves (n most : ℕ) (step : (ℕ → ℕ) → ℕ → ℕ) (us : Li
 -- A solution, and no solution is greater anywhere.
 pub record IsGreatest (n most : ℕ) (step : (ℕ → ℕ) → ℕ → ℕ) (us : List ℕ) : Type 0 where
   pub solves : Solves n most step us
-  pub greatest : (vs : List ℕ) → Solves n most step vs → (i : ℕ) → i < n → slice_index vs i ≤ slice_index us i
+  pub greatest : (vs : List ℕ) → Solves n most step vs
+      → (i : ℕ) → i < n → slice_index vs i ≤ slice_index us i
 
 -- a / b, rounded up.
 abbrev pub quotient_up : ℕ → ℕ → ℕ

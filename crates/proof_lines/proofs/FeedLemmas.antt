@@ -12,7 +12,7 @@ use Rattle.proof_lines.specs.Lines.{LineData, line, most_number, spaced, digits_
 use Rattle.proof_lines.specs.Lines.IsValue.{whole, ratio, bounds}
 use Rattle.proof_lines.proofs.LinesDiffer.{one_spelling}
 
--- no byte is a line feed
+-- Each byte is above the line feed.
 abbrev pub clean : List ℕ → Bool
 clean [] = true
 clean (b ∷ bs) = ltb 10 b && clean bs
@@ -74,7 +74,7 @@ clean_line S.Upper ns h = clean_spaced ns h
 clean_line S.Lower ns h = clean_spaced ns h
 clean_line S.End ns h = refl
 
--- two texts part at their first line feeds
+-- Two texts part at their first line feeds.
 pub feed_split : (xs ys u v : List ℕ) → clean xs ≡ true → clean ys ≡ true → xs ++ 10 ∷ u ≡ ys ++ 10 ∷ v → (xs ≡ ys) × (u ≡ v)
 feed_split [] [] u v h k e = (refl, cc)
 feed_split [] (y ∷ ys) u v h k e = let f : 10 ≡ y = cc in absurd (above_ten y (clean ys) k f)

@@ -8,6 +8,8 @@ pub mod ProofsDiffer
 pub mod ReadLemmas
 pub mod ValueLemmas
 pub mod RejectionLemmas
+pub mod WorkedLists
+pub mod WorkedMultipliers
 pub mod WorkedProofs
 pub mod ShortLines
 pub mod WrittenOnce

@@ -73,7 +73,7 @@ value_one (ratio {a = a} {b = c} h l) (bounds {a = b} {b = d} k m) e =
 value_one (bounds {a = a} {b = c} h l) (ratio {a = b} {b = d} k m) e =
     let r = decimal_split a b (32 ∷ decimal c) (47 ∷ decimal d) h k refl refl e in let f : ◌≡◌ {A = ℕ} 32 47 = cc in absurd (omega arith)
 
--- the numbers of a line, given its shape
+-- The numbers of a line, given its shape.
 numbers_one : (s : Shape) (ns ms : List ℕ) → IsLine s ns → IsLine s ms → line_text s ns ≡ line_text s ms → ns ≡ ms
 numbers_one S.Start ns ms h k e = h ∙ sym k
 numbers_one (S.Model m) ns ms h k e = h ∙ sym k
@@ -89,7 +89,7 @@ numbers_one S.Upper ns ms h k e = spaced_one ns ms h k (cc)
 numbers_one S.Lower ns ms h k e = spaced_one ns ms h k (cc)
 numbers_one S.End ns ms h k e = h ∙ sym k
 
--- two lines of one text are one line
+-- Two lines of one text are one line.
 pub one_spelling : (s t : Shape) (ns ms : List ℕ) → IsLine s ns → IsLine t ms → line_text s ns ≡ line_text t ms → (s ≡ t) × (ns ≡ ms)
 one_spelling s t ns ms h k e =
     let same : s ≡ t = sym (shape_is s ns) ∙ ap shape_by_head e ∙ shape_is t ms in

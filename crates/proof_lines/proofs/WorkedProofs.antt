@@ -1,4 +1,4 @@
--- The worked certificates, by computation.
+-- Worked certificates with the other leaves, by computation, and all of them together.
 use Rattle.std.proofs.Common.{◌≡◌, ◌≢◌, ℕ, suc, zero, Bool, true, false, List, [], ◌∷◌, ◌++◌, length, refl, sym, ◌∙◌, inl, inr, ◌⊎◌, ⊎_elim, arith, lit≤, lit<, ◌<◌, ◌≤◌, ◌+◌, ◌^◌, ◌*◌, subst, ap, IsTrue}
 use Rattle.std.specs.Prelude.{All, Any, pos, negsuc, ◌<ℤ◌, ◌≤ℤ◌, ◌+ℤ◌, slice_index, slice_index_or, codes}
 use Rattle.std.specs.Fmt.{digits, decimal}
@@ -18,7 +18,7 @@ use Rattle.offer_model.specs.Problems.{ProblemData, product_count, product_at, s
 use Rattle.offer_model.specs.Limits.{MayStand, Meets, KeepsLadder, IsFeasible}
 use Rattle.offer_model.specs.Nodes.{open_node, fill_of, settled_mark, Clashes, ClashesAt}
 use Rattle.offer_model.specs.Prices.{Prices, greatest_worth, prices_above}
-use Rattle.offer_model.specs.LeafBounds.{MultipliersFit, IsMultiplier, priced_limit_at, SegmentsFit, is_limited, ladder_of, IsUsable, PotentialsFit}
+use Rattle.offer_model.specs.LeafBounds.{MultipliersFit, IsMultiplier, priced_limit_at, SegmentsFit, is_limited, ladder_of, IsUsable, Rises, PotentialsFit}
 use Rattle.proof_lines.specs.Lines.{LineData, line, line_text, IsLine, IsLineText, AreLines, AreNumbers, spaced, text_of}
 use Rattle.proof_lines.specs.Lines.IsValue.{whole, ratio, bounds}
 use Rattle.proof_lines.specs.Reading.{shape_by_head}
@@ -35,175 +35,8 @@ use Rattle.offer_model.specs.Stopping.{StoppingData, own_value, value_bound}
 use Rattle.offer_model.specs.Brackets.{BoundsAbove, BoundsBelow}
 use Rattle.proof_lines.proofs.ProofsDiffer.{chain_proofs_differ}
 use Rattle.proof_lines.proofs.RejectionLemmas.{tree_rejects, count_rejects, piece_rejects}
-
--- ---- Lists of one, two and three.
-
-at_one : (P : ℕ → Type 0) → P 0 → (k : ℕ) → k < 1 → P k
-at_one P a zero l = a
-at_one P a (suc k) l = absurd (omega arith)
-
-at_two : (P : ℕ → Type 0) → P 0 → P 1 → (k : ℕ) → k < 2 → P k
-at_two P a b zero l = a
-at_two P a b (suc zero) l = b
-at_two P a b (suc (suc k)) l = absurd (omega arith)
-
-at_three : (P : ℕ → Type 0) → P 0 → P 1 → P 2 → (k : ℕ) → k < 3 → P k
-at_three P a b c zero l = a
-at_three P a b c (suc zero) l = b
-at_three P a b c (suc (suc zero)) l = c
-at_three P a b c (suc (suc (suc k))) l = absurd (omega arith)
-
-All-one : (P : Limit → Type 0) (x : Limit) → P x → All P (x ∷ [])
-All-one P x h zero d l = h
-All-one P x h (suc k) d l = absurd (omega arith)
-
-All-two : (P : Limit → Type 0) (x y : Limit) → P x → P y → All P (x ∷ y ∷ [])
-All-two P x y h j zero d l = h
-All-two P x y h j (suc zero) d l = j
-All-two P x y h j (suc (suc k)) d l = absurd (omega arith)
-
-Any-one : (P : Limit → Type 0) (x : Limit) → Any P (x ∷ []) → P x
-Any-one P x a = at a.0 a.1 a.2 a.3 a.4
-  where
-    at : (k : ℕ) (y : Limit) → k < 1 → slice_index_or (x ∷ []) k y ≡ y → P y → P x
-    at zero y l e h = let e' : x ≡ y = e in subst P (sym e') h
-    at (suc k) y l e h = absurd (omega arith)
-
--- ---- Two products without limits.
-
-abbrev free_tree : Tree
-free_tree = branch 0 (branch 1 (leaf S.Multipliers []) (leaf S.Multipliers [])) (leaf S.Multipliers [])
-
-free_text : joined (free_header ++ codes "m" ∷ codes "end" ∷ []) ≡ text_of (lines_of (proof_of free_pair (true ∷ true ∷ []) free_tree))
-unfolding digits
-free_text = refl
-
-free_lines : AreLines (lines_of (proof_of free_pair (true ∷ true ∷ []) free_tree))
-free_lines = (refl, (refl, ((lit≤ tt, (lit< tt, (lit< tt, tt))), (ratio (lit≤ tt) (lit≤ tt), ((refl, (lit≤ tt, tt)), ((refl, (lit≤ tt, tt)), (tt, (tt, (tt, (refl, tt))))))))))
-
-free_feasible : IsFeasible free_pair (true ∷ true ∷ [])
-free_feasible = (refl, λ k d l. absurd (omega arith))
-
-free_closes : TreeCloses free_pair (true ∷ true ∷ []) (open_node 2) free_tree
-free_closes = (refl, (refl, (none, inr (refl, λ h. h)), (none, inl (record { lt = tt }))), (none, inl (record { lt = tt })))
-  where
-    none : MultipliersFit free_pair []
-    none = record { each = refl; small = λ k l. absurd (omega arith) }
-
-pub free_accepted : FreePair
-free_accepted = (true ∷ true ∷ [], free_tree, record { proof = record { lines = free_lines; leaves = ((tt, tt), tt); whole = free_text }; feasible = free_feasible; closed = free_closes })
-
-free_broken_count : Accepts free_pair (joined (free_header ++ codes "end" ∷ [])) → ⊥
-unfolding digits
-free_broken_count = count_rejects free_pair (joined (free_header ++ codes "end" ∷ []))
-    (line S.Start []) (line (S.Model Logit) []) (line S.Set (1 ∷ 1 ∷ [])) (line S.Value (1 ∷ 32 ∷ 10 ∷ []))
-    (line S.Branch (0 ∷ []) ∷ line S.Branch (1 ∷ []) ∷ line S.Multipliers [] ∷ line S.Multipliers [] ∷ line S.End [] ∷ [])
-    (refl, (refl, ((lit≤ tt, (lit< tt, (lit< tt, tt))), (ratio (lit≤ tt) (lit≤ tt), ((refl, (lit≤ tt, tt)), ((refl, (lit≤ tt, tt)), (tt, (tt, (refl, tt)))))))))
-    refl (λ e. let f : ◌≡◌ {A = ℕ} 5 6 = e in absurd (omega arith))
-
-free_cut_off : Accepts free_pair (joined (free_header ++ codes "m" ∷ [])) → ⊥
-unfolding digits
-free_cut_off = count_rejects free_pair (joined (free_header ++ codes "m" ∷ []))
-    (line S.Start []) (line (S.Model Logit) []) (line S.Set (1 ∷ 1 ∷ [])) (line S.Value (1 ∷ 32 ∷ 10 ∷ []))
-    (line S.Branch (0 ∷ []) ∷ line S.Branch (1 ∷ []) ∷ line S.Multipliers [] ∷ line S.Multipliers [] ∷ line S.Multipliers [] ∷ [])
-    (refl, (refl, ((lit≤ tt, (lit< tt, (lit< tt, tt))), (ratio (lit≤ tt) (lit≤ tt), ((refl, (lit≤ tt, tt)), ((refl, (lit≤ tt, tt)), (tt, (tt, (tt, tt)))))))))
-    refl (λ e. let f : ◌≡◌ {A = ℕ} 5 6 = e in absurd (omega arith))
-
-leading_zeros : (ns : List ℕ) → AreNumbers ns → line_text S.Multipliers ns ≡ codes "m 01" → ⊥
-leading_zeros [] a e = let f : ◌≡◌ {A = List ℕ} (109 ∷ []) (109 ∷ 32 ∷ 48 ∷ 49 ∷ []) = e in cc
-leading_zeros (n ∷ ns) a e =
-    let f : ◌≡◌ {A = List ℕ} (109 ∷ 32 ∷ decimal n ++ spaced ns) (109 ∷ 32 ∷ 48 ∷ 49 ∷ []) = e in
-    let rest : decimal n ++ spaced ns ≡ 48 ∷ 49 ∷ [] = cc in
-    let number = decimal_is_IsNumeral_wide n (omega (arith, a.0)) in
-    let two : AllDigits 10 (48 ∷ 49 ∷ []) = (lit< tt, (lit< tt, tt)) in
-    let parts = digits_split (decimal n) (48 ∷ 49 ∷ []) (spaced ns) [] number.0.1 two (spaced_past ns) tt rest in
-    leading_zero n (48 ∷ 49 ∷ []) a.0 refl (lit< tt) parts.0
-
-no_such_line : IsLineText (codes "m 01") → ⊥
-no_such_line k =
-    let same : k.0 ≡ S.Multipliers = sym (shape_is k.0 k.1) ∙ ap shape_by_head k.3 in
-    let P : Shape → Type 0 = λ s. IsLine s k.1 × (line_text s k.1 ≡ codes "m 01") in
-    let at = subst P same (k.2, k.3) in
-    leading_zeros k.1 at.0 at.1
-
-free_no_line : Accepts free_pair (joined (free_header ++ codes "m 01" ∷ codes "end" ∷ [])) → ⊥
-free_no_line = piece_rejects free_pair (free_header ++ codes "m 01" ∷ codes "end" ∷ [])
-    (refl, (refl, (refl, (refl, (refl, (refl, (refl, (refl, (refl, (refl, tt))))))))))
-    (λ k. no_such_line k.1.1.1.1.1.1.1.1.0)
-
-pub free_broken : FreePairBroken
-free_broken = (free_broken_count, free_no_line, free_cut_off)
-
--- ---- Two equal products of which one may be offered.
-
-abbrev capped_tree : ℕ → Tree
-capped_tree u = branch 0 (leaf S.Multipliers (u ∷ [])) (branch 1 (leaf S.Multipliers (0 ∷ [])) (leaf S.Multipliers (0 ∷ [])))
-
-capped_lines : (u : ℕ) → u ≤ 2 ^ 108 → AreLines (lines_of (proof_of capped_pair (false ∷ true ∷ []) (capped_tree u)))
-capped_lines u h = (refl, (refl, ((lit≤ tt, (lit< tt, (lit< tt, tt))), (ratio (lit≤ tt) (lit≤ tt),
-  ((refl, (lit≤ tt, tt)), ((h, tt), ((refl, (lit≤ tt, tt)), ((lit≤ tt, tt), ((lit≤ tt, tt), (refl, tt))))))))))
-
-capped_40 : IsProof (proof_of capped_pair (false ∷ true ∷ []) (capped_tree 40)) (capped_text (codes "m 40"))
-unfolding digits
-capped_40 = record { lines = capped_lines 40 (lit≤ tt); leaves = (tt, (tt, tt)); whole = refl }
-
-capped_39 : IsProof (proof_of capped_pair (false ∷ true ∷ []) (capped_tree 39)) (capped_text (codes "m 39"))
-unfolding digits
-capped_39 = record { lines = capped_lines 39 (lit≤ tt); leaves = (tt, (tt, tt)); whole = refl }
-
-capped_fit : (u : ℕ) → u ≤ 2 ^ 100 → MultipliersFit capped_pair (u ∷ [])
-capped_fit u h = record { each = refl; small = at_one (λ k. IsMultiplier (priced_limit_at capped_pair k) (slice_index (u ∷ []) k)) h }
-
-capped_feasible : IsFeasible capped_pair (false ∷ true ∷ [])
-capped_feasible = (refl, All-one (Meets capped_pair (false ∷ true ∷ [])) (Total 1) (lit≤ tt))
-
-capped_closes : TreeCloses capped_pair (false ∷ true ∷ []) (open_node 2) (capped_tree 40)
-capped_closes = (refl, (capped_fit 40 (lit≤ tt), inr (refl, λ h. h)),
-  (refl, (capped_fit 0 (lit≤ tt), inr (refl, λ h. h)), (capped_fit 0 (lit≤ tt), inl (record { lt = tt }))))
-
-capped_open : TreeCloses capped_pair (false ∷ true ∷ []) (open_node 2) (capped_tree 39) → ⊥
-capped_open k = ⊎_elim (λ a. absurd a.lt) (λ b. let e : pos 1 ≡ pos 0 = b.0 in cc) k.1.1
-
-pub capped_worked : CappedPair
-capped_worked = ((false ∷ true ∷ [], capped_tree 40, record { proof = capped_40; feasible = capped_feasible; closed = capped_closes }),
-  tree_rejects capped_pair (capped_text (codes "m 39")) (false ∷ true ∷ []) (capped_tree 39) capped_39 capped_open)
-
--- ---- A chain of requirements.
-
-abbrev required_tree : ℕ → Tree
-required_tree u = branch 0
-  (branch 2 (branch 1 (leaf S.Multipliers (0 ∷ 0 ∷ [])) (leaf S.Clash [])) (leaf S.Multipliers (u ∷ u ∷ [])))
-  (leaf S.Multipliers (0 ∷ 0 ∷ []))
-
-required_lines : (u : ℕ) → u ≤ 2 ^ 108 → AreLines (lines_of (proof_of required_chain (true ∷ true ∷ true ∷ []) (required_tree u)))
-required_lines u h = (refl, (refl, ((lit≤ tt, (lit< tt, (lit< tt, (lit< tt, tt)))), (ratio (lit≤ tt) (lit≤ tt),
-  ((refl, (lit≤ tt, tt)), ((refl, (lit≤ tt, tt)), ((refl, (lit≤ tt, tt)), ((lit≤ tt, (lit≤ tt, tt)), (refl, ((h, (h, tt)), ((lit≤ tt, (lit≤ tt, tt)), (refl, tt))))))))))))
-
-required_21 : IsProof (proof_of required_chain (true ∷ true ∷ true ∷ []) (required_tree 21)) (required_text (codes "m 21 21"))
-unfolding digits
-required_21 = record { lines = required_lines 21 (lit≤ tt); leaves = (((tt, tt), tt), tt); whole = refl }
-
-required_20 : IsProof (proof_of required_chain (true ∷ true ∷ true ∷ []) (required_tree 20)) (required_text (codes "m 20 20"))
-unfolding digits
-required_20 = record { lines = required_lines 20 (lit≤ tt); leaves = (((tt, tt), tt), tt); whole = refl }
-
-required_fit : (u v : ℕ) → MultipliersFit required_chain (u ∷ v ∷ [])
-required_fit u v = record { each = refl; small = at_two (λ k. IsMultiplier (priced_limit_at required_chain k) (slice_index (u ∷ v ∷ []) k)) tt tt }
-
-required_feasible : IsFeasible required_chain (true ∷ true ∷ true ∷ [])
-required_feasible = (refl, All-two (Meets required_chain (true ∷ true ∷ true ∷ [])) (Requires 0 1) (Requires 1 2) (λ h. refl) (λ h. refl))
-
-required_closes : TreeCloses required_chain (true ∷ true ∷ true ∷ []) (open_node 3) (required_tree 21)
-required_closes = (refl,
-  (refl, (refl, (required_fit 0 0, inr (refl, λ h. h)), (refl, (0, Requires 0 1, lit< tt, refl, (refl, refl)))), (required_fit 21 21, inl (record { lt = tt }))),
-  (required_fit 0 0, inl (record { lt = tt })))
-
-required_open : TreeCloses required_chain (true ∷ true ∷ true ∷ []) (open_node 3) (required_tree 20) → ⊥
-required_open k = ⊎_elim (λ a. absurd a.lt) (λ b. b.1 tt) k.1.2.1
-
-pub required_worked : RequiredChain
-required_worked = ((true ∷ true ∷ true ∷ [], required_tree 21, record { proof = required_21; feasible = required_feasible; closed = required_closes }),
-  tree_rejects required_chain (required_text (codes "m 20 20")) (true ∷ true ∷ true ∷ []) (required_tree 20) required_20 required_open)
+use Rattle.proof_lines.proofs.WorkedLists.{at_one, at_two, at_three, All-one, All-two, Any-one}
+use Rattle.proof_lines.proofs.WorkedMultipliers.{free_accepted, free_broken, capped_worked, required_worked}
 
 -- ---- Mixed logit.
 
@@ -327,7 +160,7 @@ UsedBy node us i = IsUsable ladder_of_three node i → prices i ≤ℤ pos (slic
 
 abbrev ChainedBy : List Mark → List ℕ → ℕ → ℕ → Type 0
 ChainedBy node us i j = IsUsable ladder_of_three node i → IsUsable ladder_of_three node j → ladder_of ladder_of_three i ≡ ladder_of ladder_of_three j
-    → (product_at ladder_of_three i).grade < (product_at ladder_of_three j).grade → (product_at ladder_of_three i).price ≤ (product_at ladder_of_three j).price
+    → Rises (product_at ladder_of_three i) (product_at ladder_of_three j)
     → (prices i +ℤ pos (slice_index us j)) ≤ℤ pos (slice_index us i)
 
 -- Where neither of the first two products is usable, only the third has a number, and no rise has two products.
@@ -340,7 +173,7 @@ third_alone node u zero_out one_out unused alone = record {
   chained = λ i j li lj. at_three (λ i. ChainedBy node (0 ∷ 0 ∷ u ∷ []) i j)
     (λ h k. absurd (zero_out h))
     (λ h k. absurd (one_out h))
-    (at_three (ChainedBy node (0 ∷ 0 ∷ u ∷ []) 2) (λ h k. absurd (zero_out k)) (λ h k. absurd (one_out k)) (λ h k s g. absurd (omega arith)) j lj) i li;
+    (at_three (ChainedBy node (0 ∷ 0 ∷ u ∷ []) 2) (λ h k. absurd (zero_out k)) (λ h k. absurd (one_out k)) (λ h k s r. let up = r.0 in absurd (omega arith)) j lj) i li;
 }
 
 -- With the first product In the third is usable: its grade and its price are higher.

@@ -57,7 +57,8 @@ Accepts p text = (x : List Bool) × (tree : Tree) × IsAccepted p text x tree
 
 -- The lines of a chain's certificate.
 abbrev pub chain_lines : StoppingData → List LineData
-chain_lines s = line S.Start [] ∷ line (S.Model Chain) [] ∷ line S.Set (digits_of s.set) ∷ line S.Value (2 ∷ s.lo ∷ s.up ∷ [])
+chain_lines s = line S.Start [] ∷ line (S.Model Chain) [] ∷ line S.Set (digits_of s.set)
+    ∷ line S.Value (2 ∷ s.lo ∷ s.up ∷ [])
     ∷ line S.Upper s.upper ∷ line S.Lower s.lower ∷ line S.End [] ∷ []
 
 -- The vectors bracket the assortment, and the bounds are what arriving customers bring by them, rounded up and down,

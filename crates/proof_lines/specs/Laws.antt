@@ -18,19 +18,23 @@ use Rattle.proof_lines.specs.Acceptance.{proof_of, IsAccepted, IsAcceptedChain, 
 
 -- The assortment of an accepted text is the best one.
 abbrev pub AcceptedIsBest : Type 0
-AcceptedIsBest = (p : ProblemData) (text : List ℕ) (x : List Bool) (tree : Tree) → IsAccepted p text x tree → IsBest p x
+AcceptedIsBest = (p : ProblemData) (text : List ℕ) (x : List Bool) (tree : Tree)
+    → IsAccepted p text x tree → IsBest p x
 
 -- The assortment and the bounds of an accepted text of a chain are what the chain's claim says.
 abbrev pub AcceptedIsBracketed : Type 0
-AcceptedIsBracketed = (c : ChainData) (text : List ℕ) (s : StoppingData) → IsAcceptedChain c text s → IsBracketed c s.set s.lo s.up
+AcceptedIsBracketed = (c : ChainData) (text : List ℕ) (s : StoppingData)
+    → IsAcceptedChain c text s → IsBracketed c s.set s.lo s.up
 
 -- Two lines of one text are one line.
 abbrev pub LinesDiffer : Type 0
-LinesDiffer = (s t : Shape) (ns ms : List ℕ) → IsLine s ns → IsLine t ms → line_text s ns ≡ line_text t ms → (s ≡ t) × (ns ≡ ms)
+LinesDiffer = (s t : Shape) (ns ms : List ℕ) → IsLine s ns → IsLine t ms
+    → line_text s ns ≡ line_text t ms → (s ≡ t) × (ns ≡ ms)
 
 -- Two certificates of a chain with one text are one certificate.
 abbrev pub ChainProofsDiffer : Type 0
-ChainProofsDiffer = (s t : StoppingData) → AreLines (chain_lines s) → AreLines (chain_lines t) → text_of (chain_lines s) ≡ text_of (chain_lines t) → s ≡ t
+ChainProofsDiffer = (s t : StoppingData) → AreLines (chain_lines s) → AreLines (chain_lines t)
+    → text_of (chain_lines s) ≡ text_of (chain_lines t) → s ≡ t
 
 -- Two proofs of one text are one proof.
 abbrev pub ProofsDiffer : Type 0
@@ -78,7 +82,8 @@ IsFixedUnder Chain p = ⊥
 
 -- There is then one text at most.
 abbrev pub SearchesWriteOnce : Type 0
-SearchesWriteOnce = (p : ProblemData) (a b : List ℕ) → IsFixedUnder p.model p → IsWritten p a → IsWritten p b → a ≡ b
+SearchesWriteOnce = (p : ProblemData) (a b : List ℕ) → IsFixedUnder p.model p
+    → IsWritten p a → IsWritten p b → a ≡ b
 
 -- And one for a chain.
 abbrev pub ChainsWriteOnce : Type 0

@@ -33,7 +33,8 @@ abbrev pub free_pair : ProblemData
 free_pair = catalogue Logit 5 (plain 10 ∷ plain 4 ∷ []) (2 ∷ 3 ∷ []) []
 
 abbrev pub free_header : List (List ℕ)
-free_header = codes "assort-proof 1" ∷ codes "model logit" ∷ codes "set 11" ∷ codes "value 32/10" ∷ codes "b 0" ∷ codes "b 1" ∷ codes "m" ∷ codes "m" ∷ []
+free_header = codes "assort-proof 1" ∷ codes "model logit" ∷ codes "set 11" ∷ codes "value 32/10"
+    ∷ codes "b 0" ∷ codes "b 1" ∷ codes "m" ∷ codes "m" ∷ []
 
 abbrev pub FreePair : Type 0
 FreePair = Accepts free_pair (joined (free_header ++ codes "m" ∷ codes "end" ∷ []))
