@@ -9,9 +9,9 @@ use Rattle.offer_model.specs.declared.products.ModelName.{ModelName}
 use Rattle.offer_model.specs.declared.products.ModelName.TheVariants.{Logit, Attract, Mixed, Chain}
 use Rattle.offer_model.specs.declared.ranges.TheConstants.{MOST_AMOUNT}
 use Rattle.offer_model.specs.Problems.{product_count, shadow_of}
-use Rattle.offer_model.specs.Validity.{IsPositiveAmount, IsProduct, IsSegment, IsRatioModel, IsPlainModel, IsProblem}
+use Rattle.offer_model.specs.Validity.{IsPositiveAmount, IsProduct, IsSegment, IsRatioModel, IsPlainModel, IsProblem, HasLimits}
 use Rattle.catalogue.specs.Rows.{RowData, no_row, row_at, IsCatalogue}
-use Rattle.catalogue.specs.CatalogueProblems.{shadow_under, segment_of, problem_data_of, HasLimits, KeepsShadows}
+use Rattle.catalogue.specs.CatalogueProblems.{shadow_under, segment_of, problem_data_of, KeepsShadows}
 
 -- One more item, read by its place.
 pub take_read : {X : Type 0} (xs : List X) (i : ℕ) (x : X) → slice_get xs i ≡ Some x → take (i + 1) xs ≡ take i xs ++ x ∷ []
@@ -89,11 +89,7 @@ catalogue_problem rows model none unit limits valid ratio some one given keeps =
       each = All-cons (λ g. length g.attract ≡ product_count (problem_data_of rows model none unit limits)) (segment_of rows model none) []
           (length-map rows (λ row. row.attraction) ∙ sym (length-map rows (λ row. row.product))) (All-nil _);
       sizes = omega arith;
-      few_limits = given.few;
-      few_requires = given.few_requires;
-      in_range = given.in_range;
-      named = given.named;
-      once = given.once;
+      limits = given;
       single = λ _. (one, refl, refl);
       plain = λ plain. All-cons (λ g. (i : ℕ) → shadow_of g i ≡ 0) (segment_of rows model none) [] (plain_shadow rows model none ratio plain) (All-nil _);
     }

@@ -1,11 +1,9 @@
 -- The problem that a catalogue and its limits are. Own.
-use Rattle.std.specs.Prelude.{ℕ, ◌≤◌, List, [], ◌∷◌, map, length, All, AllPairs, count_by}
+use Rattle.std.specs.Prelude.{ℕ, ◌≤◌, List, [], ◌∷◌, map, All}
 use Rattle.offer_model.specs.declared.products.Limit.{Limit}
 use Rattle.offer_model.specs.declared.products.ModelName.{ModelName}
 use Rattle.offer_model.specs.declared.products.ModelName.TheVariants.{Logit, Attract, Mixed, Chain}
-use Rattle.offer_model.specs.declared.ranges.TheConstants.{MOST_LIMITS, MOST_REQUIRES}
 use Rattle.offer_model.specs.Problems.{SegmentData, ProblemData}
-use Rattle.offer_model.specs.Validity.{IsInRange, NamesExisting, Repeats, is_requires}
 use Rattle.catalogue.specs.Rows.{RowData}
 
 -- The shadow attraction that counts: none but under generalised attraction.
@@ -33,15 +31,6 @@ problem_data_of rows model none unit limits = record {
   segments = segment_of rows model none ∷ [];
   limits = limits;
 }
-
--- The limits may stand in the problem: not too many, in range, of products, categories and ladders that it has, and none
--- repeats an earlier one.
-pub record HasLimits (p : ProblemData) : Type 0 where
-  pub few : length p.limits ≤ MOST_LIMITS
-  pub few_requires : count_by is_requires p.limits ≤ MOST_REQUIRES
-  pub in_range : All IsInRange p.limits
-  pub named : All (NamesExisting p) p.limits
-  pub once : AllPairs (λ a b. Repeats a b → ⊥) p.limits
 
 -- No product's shadow is above its attraction.
 abbrev pub KeepsShadows : List RowData → Type 0

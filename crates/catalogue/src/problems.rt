@@ -1,6 +1,6 @@
 ghost use Rattle.std.specs.Prelude.{◌≡◌, ◌<◌, [], ◌∷◌, length, map, IfOk};
-ghost use Rattle.offer_model.specs.Validity.{IsPositiveAmount, IsRatioModel};
-ghost use Rattle.catalogue.specs.CatalogueProblems.{shadow_under, segment_of, problem_data_of, HasLimits, KeepsShadows};
+ghost use Rattle.offer_model.specs.Validity.{IsPositiveAmount, IsRatioModel, HasLimits};
+ghost use Rattle.catalogue.specs.CatalogueProblems.{shadow_under, segment_of, problem_data_of, KeepsShadows};
 ghost use Rattle.catalogue.specs.Rows.{row_at, IsCatalogue};
 
 use crate::catalogue::Catalogue;

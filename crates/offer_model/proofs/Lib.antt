@@ -1,2 +1,11 @@
 pub mod DigitLemmas
 pub mod WorkedValueLemmas
+pub mod SumLemmas
+pub mod TieLemmas
+pub mod CompletionLemmas
+pub mod MultiplierLemmas
+pub mod WorthLemmas
+pub mod ShelfLemmas
+pub mod PotentialLemmas
+pub mod BestLemmas
+pub mod BracketLemmas

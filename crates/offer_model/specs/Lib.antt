@@ -8,3 +8,13 @@ pub mod Revenue
 pub mod Limits
 pub mod Best
 pub mod WorkedValues
+pub mod Nodes
+pub mod Prices
+pub mod LeafBounds
+pub mod Chains
+pub mod Moves
+pub mod Stopping
+pub mod Claims
+pub mod Brackets
+pub mod Branching
+pub mod NodeValues

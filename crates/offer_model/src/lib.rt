@@ -1,10 +1,12 @@
 //! Problems of assortment optimisation: products, segments of customers, limits, and what an assortment earns.
 #![tactic(auto)]
 
+mod arc;
 mod assortment;
 mod laws;
 mod lists;
 mod memory;
+mod node;
 mod numerals;
 mod problems;
 mod products;
@@ -13,10 +15,12 @@ mod revenue;
 mod segments;
 mod texts;
 
+pub use arc::Arc;
 pub use assortment::Assortment;
 pub use laws::worked_values_hold;
 pub use lists::{Bytes, Items, Limits, Numbers, Products, Segments, Wide};
 pub use memory::NoMemory;
+pub use node::{Mark, Node};
 pub use numerals::{MOST_DIGITS, read_number};
 pub use problems::Problem;
 pub use products::{Fraction, Limit, ModelName, Product};

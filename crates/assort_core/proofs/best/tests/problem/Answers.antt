@@ -52,11 +52,13 @@ is_problem none rows positive few = record {
   segments = All-cons IsSegment (segment none rows) [] (is_segment none rows positive) (All-nil IsSegment);
   each = All-cons (λ (g : SegmentData). length g.attract ≡ length (products rows)) (segment none rows) [] (length-map rows _ ∙ sym (length-map rows _)) (All-nil (λ (g : SegmentData). length g.attract ≡ length (products rows)));
   sizes = omega arith;
-  few_limits = omega arith;
-  few_requires = omega arith;
-  in_range = All-nil IsInRange;
-  named = λ k d inside. absurd (omega arith);
-  once = λ i j d lower inside. absurd (omega arith);
+  limits = record {
+    few = omega arith;
+    few_requires = omega arith;
+    in_range = All-nil IsInRange;
+    named = λ k d inside. absurd (omega arith);
+    once = λ i j d lower inside. absurd (omega arith);
+  };
   single = λ model. (refl, refl, refl);
   plain = λ model. absurd model;
 }

@@ -1,0 +1,83 @@
+-- Sums over products.
+use Rattle.std.proofs.Common.{◌≡◌, ℕ, Bool, true, false, cond, List, [], ◌∷◌, length, refl, ap, arith, suc, zero, ◌<◌, ◌≤◌, ◌*◌, ◌+◌}
+use Rattle.std.specs.Prelude.{pos, ◌+ℤ◌, ◌-ℤ◌, ◌≤ℤ◌}
+use Rattle.std.proofs.lemmas.Int.{ints}
+use Rattle.std.proofs.lemmas.Bool.Decides.{nat_tests}
+use Rattle.std.proofs.Common.{eqb}
+use lib.IntN.{ℤ}
+use Rattle.offer_model.specs.Assortments.{offers, sum_below}
+use Rattle.offer_model.specs.Prices.{int_sum_below}
+
+pub sum_mono : (n : ℕ) (f g : ℕ → ℤ) → ((i : ℕ) → i < n → f i ≤ℤ g i) → int_sum_below n f ≤ℤ int_sum_below n g
+sum_mono zero f g h = omega (arith, ints)
+sum_mono (suc n) f g h =
+    let before = sum_mono n f g (λ i l. h i (omega arith)) in
+    let here = h n (omega arith) in
+    omega (arith, ints)
+
+-- A sum that has one term: u at product a, where y is true there.
+abbrev pub point : ℕ → (ℕ → Bool) → ℕ → ℕ → ℕ
+point n y u a = sum_below n (λ i. cond (y i) (cond (eqb i a) u 0) 0)
+
+-- The sum over the products at which y is true.
+abbrev pub over : ℕ → (ℕ → Bool) → (ℕ → ℕ) → ℕ
+over n y f = sum_below n (λ i. cond (y i) (f i) 0)
+
+pub over_add : (n : ℕ) (y : ℕ → Bool) (f g : ℕ → ℕ) → over n y (λ i. f i + g i) ≡ over n y f + over n y g
+over_add zero y f g = refl
+over_add (suc n) y f g =
+    let before = over_add n y f g in
+    elim (y n) as (λ v. over n y (λ i. f i + g i) + cond v (f n + g n) 0 ≡ over n y f + cond v (f n) 0 + (over n y g + cond v (g n) 0))
+    [ true ↦ omega arith | false ↦ omega arith ]
+
+pub over_times : (n : ℕ) (y : ℕ → Bool) (u : ℕ) (f : ℕ → ℕ) → over n y (λ i. u * f i) ≡ u * over n y f
+over_times zero y u f = omega arith
+over_times (suc n) y u f =
+    let before = over_times n y u f in
+    elim (y n) as (λ v. over n y (λ i. u * f i) + cond v (u * f n) 0 ≡ u * (over n y f + cond v (f n) 0)) [ true ↦ omega arith | false ↦ omega arith ]
+
+pub over_same : (n : ℕ) (y : ℕ → Bool) (f g : ℕ → ℕ) → ((i : ℕ) → f i ≡ g i) → over n y f ≡ over n y g
+over_same zero y f g e = refl
+over_same (suc n) y f g e = let before = over_same n y f g e in let here = e n in rw (before, here) refl
+
+-- Prices that are raised and lowered, summed.
+pub sum_moved : (n : ℕ) (y : ℕ → Bool) (price : ℕ → ℤ) (up down : ℕ → ℕ)
+    → int_sum_below n (λ i. cond (y i) ((price i +ℤ pos (up i)) -ℤ pos (down i)) (pos 0)) +ℤ pos (over n y down)
+    ≡ int_sum_below n (λ i. cond (y i) (price i) (pos 0)) +ℤ pos (over n y up)
+sum_moved zero y price up down = omega (arith, ints)
+sum_moved (suc n) y price up down =
+    let before = sum_moved n y price up down in
+    elim (y n) as (λ v. (int_sum_below n (λ i. cond (y i) ((price i +ℤ pos (up i)) -ℤ pos (down i)) (pos 0)) +ℤ cond v ((price n +ℤ pos (up n)) -ℤ pos (down n)) (pos 0))
+    +ℤ pos (over n y down + cond v (down n) 0)
+    ≡ int_sum_below n (λ i. cond (y i) (price i) (pos 0)) +ℤ cond v (price n) (pos 0) +ℤ pos (over n y up + cond v (up n) 0))
+    [ true ↦ omega (arith, ints) | false ↦ omega (arith, ints) ]
+
+pub sum_le : (n : ℕ) (f g : ℕ → ℕ) → ((i : ℕ) → i < n → f i ≤ g i) → sum_below n f ≤ sum_below n g
+sum_le zero f g h = omega arith
+sum_le (suc n) f g h =
+    let before = sum_le n f g (λ i l. h i (omega arith)) in
+    let here = h n (omega arith) in
+    omega arith
+
+point_step : (s n a u : ℕ) (b : Bool) → (n ≤ a → s ≡ 0) → s ≤ u → s + cond b (cond (eqb n a) u 0) 0 ≤ u
+point_step s n a u true h k = grind (arith, nat_tests)
+point_step s n a u false h k = omega arith
+
+point_none : (n : ℕ) (y : ℕ → Bool) (u a : ℕ) → n ≤ a → point n y u a ≡ 0
+point_none zero y u a l = refl
+point_none (suc n) y u a l =
+    let before = point_none n y u a (omega arith) in
+    let other : eqb n a ≡ false = grind (arith, nat_tests) in
+    rw (before, other) (elim (y n) as (λ v. 0 + cond v (cond false u 0) 0 ≡ 0) [ true ↦ refl | false ↦ refl ])
+
+pub point_le : (n : ℕ) (y : ℕ → Bool) (u a : ℕ) → point n y u a ≤ u
+point_le zero y u a = omega arith
+point_le (suc n) y u a = point_step (point n y u a) n a u (y n) (point_none n y u a) (point_le n y u a)
+
+pub point_false : (n : ℕ) (y : ℕ → Bool) (u a : ℕ) → y a ≡ false → point n y u a ≡ 0
+point_false zero y u a h = refl
+point_false (suc n) y u a h = let before = point_false n y u a h in grind (arith, nat_tests)
+
+pub point_true : (n : ℕ) (y : ℕ → Bool) (u a : ℕ) → a < n → y a ≡ true → u ≤ point n y u a
+point_true zero y u a l h = absurd (omega arith)
+point_true (suc n) y u a l h = let before = point_true n y u a in grind (arith, nat_tests)

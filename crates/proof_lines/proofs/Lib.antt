@@ -1,0 +1,15 @@
+pub mod AcceptedIsBest
+pub mod AcceptedIsBracketed
+pub mod NumberLemmas
+pub mod SpacedLemmas
+pub mod LinesDiffer
+pub mod FeedLemmas
+pub mod ProofsDiffer
+pub mod ReadLemmas
+pub mod ValueLemmas
+pub mod RejectionLemmas
+pub mod WorkedLists
+pub mod WorkedMultipliers
+pub mod WorkedProofs
+pub mod ShortLines
+pub mod WrittenOnce
