@@ -1,11 +1,11 @@
 -- Words read in pairs of a key and its value: what comes of the next pair.
-use Rattle.std.proofs.Common.{◌≡◌, ◌∙◌, ℕ, ◌+◌, ◌<◌, ◌≤◌, List, [], ◌∷◌, length, drop, slice_get, Some, Ok, Err, Option, refl, arith, get_or, sym, ap}
+use Rattle.std.proofs.Common.{◌≡◌, ◌∙◌, ℕ, ◌+◌, ◌<◌, List, [], ◌∷◌, length, drop, slice_get, Some, Ok, Err, refl, arith, get_or, sym}
 use Rattle.std.proofs.lemmas.List.{drop_more, drop_all}
 use Rattle.std.proofs.lemmas.Option.{slice_get-get_or}
 use Rattle.assort_core.specs.declared.usage.Key.{Key}
 use Rattle.assort_core.specs.declared.usage.UsageFault.{UsageFault}
 use Rattle.assort_core.specs.declared.usage.UsageCode.TheVariants.{MissingValue}
-use Rattle.assort_core.specs.Asked.{RequestData, refused_at, new_key, new_value, with_pairs, and_then}
+use Rattle.assort_core.specs.Asked.{RequestData, refused_at, new_key, new_value, with_pairs}
 
 -- the word at a place is the first of those from there on
 pub word_at : (words : List (List ℕ)) (at : ℕ) (word : List ℕ) → at < length words → slice_get words at ≡ Some word

@@ -1,6 +1,5 @@
 -- What a run does, from what its parts do.
-use Rattle.std.proofs.Common.{◌≡◌, ◌∙◌, sym, refl, ap, arith, ℕ, ◌≤◌, ◌<◌, List, [], ◌++◌, length, take, Option, Some, None, Result, Ok, Err, IsTrue, inl, inr, ◌⊎◌}
-use Rattle.std.specs.Prelude.{IsErrOf, MatchResult}
+use Rattle.std.proofs.Common.{◌≡◌, ◌∙◌, sym, refl, ap, arith, ℕ, ◌<◌, List, [], ◌++◌, length, Option, Some, Result, Ok, Err, inl, inr}
 use Rattle.std.proofs.lemmas.List.{append-nil, take_all}
 use Rattle.offer_io.specs.Stores.{StoreView}
 use Rattle.offer_io.specs.Sinks.{SinkView, Writes}
@@ -9,7 +8,7 @@ use Rattle.assort_core.specs.declared.solve.Stop.TheVariants.{Unread, TooLarge, 
 use Rattle.assort_core.specs.declared.usage.UsageFault.{UsageFault}
 use Rattle.assort_core.specs.Asked.{RequestData, asked_of}
 use Rattle.assort_core.specs.Lines.{usage_line, too_large_line, not_plain_line}
-use Rattle.assort_core.specs.Outcomes.{Outcome, IsOutcome, IsSolved, IsSolvedFrom, IsTooLarge, HasNoRows, IsBestReport, done, refusal, products_name}
+use Rattle.assort_core.specs.Outcomes.{Outcome, IsOutcome, IsSolved, IsTooLarge, HasNoRows, IsBestReport, done, refusal, products_name}
 use Rattle.assort_core.specs.Runs.{Says, Prints, Performs, status_of, stop_line}
 
 -- a write says a line

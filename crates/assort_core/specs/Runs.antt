@@ -1,5 +1,5 @@
 -- What a run of the program does to the store and to the two sinks. Own.
-use Rattle.std.specs.Prelude.{◌≡◌, ℕ, ◌≤◌, List, [], ◌++◌, take, Some, IsTrue, IsOkAnd, Contains}
+use Rattle.std.specs.Prelude.{◌≡◌, ℕ, ◌≤◌, List, ◌++◌, take, Some, IsTrue, IsOkAnd, Contains}
 use Rattle.offer_io.specs.Causes.{Rose}
 use Rattle.offer_io.specs.Stores.{StoreView}
 use Rattle.offer_io.specs.Sinks.{SinkView}

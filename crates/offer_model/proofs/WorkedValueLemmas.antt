@@ -1,13 +1,13 @@
 -- The worked values, by computation.
-use Rattle.std.proofs.Common.{◌≡◌, ◌≢◌, ℕ, zero, suc, ◌<◌, ◌≤◌, Bool, true, false, List, [], ◌∷◌, length, refl, arith, lit<, lit≤, IsTrue}
+use Rattle.std.proofs.Common.{◌≡◌, ◌≢◌, zero, suc, Bool, true, false, List, [], ◌∷◌, length, refl, arith, lit<, lit≤}
 use Rattle.std.specs.List.{All}
-use Rattle.offer_model.specs.declared.products.Limit.TheVariants.{Total, Category, Requires, Shelf, Ladder}
+use Rattle.offer_model.specs.declared.products.Limit.TheVariants.{Total, Ladder}
 use Rattle.offer_model.specs.Problems.{ProblemData}
 use Rattle.offer_model.specs.Limits.{Meets, IsFeasible}
 use Rattle.offer_model.specs.Assortments.{IsBefore}
 use Rattle.offer_model.specs.Revenue.{EarnsMore}
 use Rattle.offer_model.specs.Best.{IsBest}
-use Rattle.offer_model.specs.WorkedValues.{RevenueIsWorked, OrderIsWorked, LimitsAreWorked, BestIsWorked, two_products, a_tie, one_of_two, three_kinds, both, only_first, only_second, first_and_third, last_two}
+use Rattle.offer_model.specs.WorkedValues.{RevenueIsWorked, OrderIsWorked, LimitsAreWorked, BestIsWorked, two_products, a_tie, one_of_two, three_kinds, both, only_first, only_second, first_and_third}
 
 pub revenue_worked : RevenueIsWorked
 revenue_worked = record {

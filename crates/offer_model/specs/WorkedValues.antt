@@ -4,7 +4,6 @@ use Rattle.offer_model.specs.declared.products.ModelName.TheVariants.{Logit, Att
 use Rattle.offer_model.specs.declared.products.Product.{Product}
 use Rattle.offer_model.specs.declared.products.Limit.{Limit}
 use Rattle.offer_model.specs.declared.products.Limit.TheVariants.{Total, Category, Requires, Shelf, Ladder}
-use Rattle.offer_model.specs.declared.products.Fraction.{Fraction}
 use Rattle.offer_model.specs.Assortments.{IsBefore}
 use Rattle.offer_model.specs.Problems.{SegmentData, ProblemData, first_segment}
 use Rattle.offer_model.specs.Revenue.{gain_of, weight_of, chance_of, leave_of, value_of, EarnsMore}

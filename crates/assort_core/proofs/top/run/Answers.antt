@@ -1,7 +1,4 @@
-use Rattle.std.proofs.Common.{◌≡◌, ◌∙◌, ◌<◌, ℕ, List, sym, ap, subst, refl, arith, Ok, Err, ⊎_elim}
-use Rattle.assort_core.specs.Asked.{asked_of}
-use Rattle.assort_core.specs.Lines.{usage_line}
-use Rattle.assort_core.specs.Runs.{Says}
+use Rattle.std.proofs.Common.{◌≡◌, ◌∙◌, sym, ap, refl, arith, Err, ⊎_elim}
 use Rattle.assort_core.proofs.RunLemmas.{performs_refusal, performs_stop, performs_solve}
 use Rattle.assort_core.proofs.top.run.Goals as goal
 

@@ -1,6 +1,5 @@
-use Rattle.std.proofs.Common.{◌≡◌, true, sym, ◌∙◌, arith, add-one, ◌<◌, length}
+use Rattle.std.proofs.Common.{◌∙◌, arith, ◌<◌, length}
 use Rattle.std.proofs.lemmas.List.Folds.{list_all_more}
-use Rattle.std.proofs.lemmas.Grind.{common_steps}
 use Rattle.std.specs.Char.{is_ascii_digit}
 use Rattle.offer_model.proofs.DigitLemmas.{digit_more, digit_bound}
 use Rattle.offer_model.proofs.numerals.read_number.Goals as goal
