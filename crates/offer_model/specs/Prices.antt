@@ -29,7 +29,7 @@ abbrev pub prices_at : ProblemData → ℕ → ℕ → Prices
 prices_at p num den = let g = first_segment p in record {
   constant = pos 0 -ℤ pos (num * (g.none + sum_below (product_count p) (shadow_of g)));
   price = λ i.
-    pos (den * (margin_of p i * attraction_of g i) + num * shadow_of g i) -ℤ pos (num * attraction_of g i);
+      pos (den * (margin_of p i * attraction_of g i) + num * shadow_of g i) -ℤ pos (num * attraction_of g i);
 }
 
 -- Under mixed logit, the prices in one segment above a number of units: an assortment that is worth less than 0

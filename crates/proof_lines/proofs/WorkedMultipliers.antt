@@ -108,8 +108,19 @@ abbrev capped_tree : ℕ → Tree
 capped_tree u = branch 0 (leaf S.Multipliers (u ∷ [])) (branch 1 (leaf S.Multipliers (0 ∷ [])) (leaf S.Multipliers (0 ∷ [])))
 
 capped_lines : (u : ℕ) → u ≤ 2 ^ 108 → AreLines (lines_of (proof_of capped_pair (false ∷ true ∷ []) (capped_tree u)))
-capped_lines u h = (refl, (refl, ((lit≤ tt, (lit< tt, (lit< tt, tt))), (ratio (lit≤ tt) (lit≤ tt),
-  ((refl, (lit≤ tt, tt)), ((h, tt), ((refl, (lit≤ tt, tt)), ((lit≤ tt, tt), ((lit≤ tt, tt), (refl, tt))))))))))
+capped_lines u h = (
+  refl,
+  (
+    refl,
+    (
+      (lit≤ tt, (lit< tt, (lit< tt, tt))),
+      (
+        ratio (lit≤ tt) (lit≤ tt),
+        ((refl, (lit≤ tt, tt)), ((h, tt), ((refl, (lit≤ tt, tt)), ((lit≤ tt, tt), ((lit≤ tt, tt), (refl, tt)))))),
+      ),
+    ),
+  ),
+)
 
 capped_40 : IsProof (proof_of capped_pair (false ∷ true ∷ []) (capped_tree 40)) (capped_text (codes "m 40"))
 unfolding digits
@@ -126,26 +137,42 @@ capped_feasible : IsFeasible capped_pair (false ∷ true ∷ [])
 capped_feasible = (refl, All-one (Meets capped_pair (false ∷ true ∷ [])) (Total 1) (lit≤ tt))
 
 capped_closes : TreeCloses capped_pair (false ∷ true ∷ []) (open_node 2) (capped_tree 40)
-capped_closes = (refl, (capped_fit 40 (lit≤ tt), inr (refl, λ h. h)),
-  (refl, (capped_fit 0 (lit≤ tt), inr (refl, λ h. h)), (capped_fit 0 (lit≤ tt), inl (record { lt = tt }))))
+capped_closes = (
+  refl,
+  (capped_fit 40 (lit≤ tt), inr (refl, λ h. h)),
+  (refl, (capped_fit 0 (lit≤ tt), inr (refl, λ h. h)), (capped_fit 0 (lit≤ tt), inl (record { lt = tt }))),
+)
 
 capped_open : TreeCloses capped_pair (false ∷ true ∷ []) (open_node 2) (capped_tree 39) → ⊥
 capped_open k = ⊎_elim (λ a. absurd a.lt) (λ b. let e : pos 1 ≡ pos 0 = b.0 in cc) k.1.1
 
 pub capped_worked : CappedPair
-capped_worked = ((false ∷ true ∷ [], capped_tree 40, record { proof = capped_40; feasible = capped_feasible; closed = capped_closes }),
-  tree_rejects capped_pair (capped_text (codes "m 39")) (false ∷ true ∷ []) (capped_tree 39) capped_39 capped_open)
+capped_worked = (
+  (false ∷ true ∷ [], capped_tree 40, record { proof = capped_40; feasible = capped_feasible; closed = capped_closes }),
+  tree_rejects capped_pair (capped_text (codes "m 39")) (false ∷ true ∷ []) (capped_tree 39) capped_39 capped_open,
+)
 
 -- ---- A chain of requirements.
 
 abbrev required_tree : ℕ → Tree
 required_tree u = branch 0
-  (branch 2 (branch 1 (leaf S.Multipliers (0 ∷ 0 ∷ [])) (leaf S.Clash [])) (leaf S.Multipliers (u ∷ u ∷ [])))
-  (leaf S.Multipliers (0 ∷ 0 ∷ []))
+    (branch 2 (branch 1 (leaf S.Multipliers (0 ∷ 0 ∷ [])) (leaf S.Clash [])) (leaf S.Multipliers (u ∷ u ∷ [])))
+    (leaf S.Multipliers (0 ∷ 0 ∷ []))
 
 required_lines : (u : ℕ) → u ≤ 2 ^ 108 → AreLines (lines_of (proof_of required_chain (true ∷ true ∷ true ∷ []) (required_tree u)))
-required_lines u h = (refl, (refl, ((lit≤ tt, (lit< tt, (lit< tt, (lit< tt, tt)))), (ratio (lit≤ tt) (lit≤ tt),
-  ((refl, (lit≤ tt, tt)), ((refl, (lit≤ tt, tt)), ((refl, (lit≤ tt, tt)), ((lit≤ tt, (lit≤ tt, tt)), (refl, ((h, (h, tt)), ((lit≤ tt, (lit≤ tt, tt)), (refl, tt))))))))))))
+required_lines u h = (
+  refl,
+  (
+    refl,
+    (
+      (lit≤ tt, (lit< tt, (lit< tt, (lit< tt, tt)))),
+      (
+        ratio (lit≤ tt) (lit≤ tt),
+        ((refl, (lit≤ tt, tt)), ((refl, (lit≤ tt, tt)), ((refl, (lit≤ tt, tt)), ((lit≤ tt, (lit≤ tt, tt)), (refl, ((h, (h, tt)), ((lit≤ tt, (lit≤ tt, tt)), (refl, tt)))))))),
+      ),
+    ),
+  ),
+)
 
 required_21 : IsProof (proof_of required_chain (true ∷ true ∷ true ∷ []) (required_tree 21)) (required_text (codes "m 21 21"))
 unfolding digits
@@ -162,13 +189,17 @@ required_feasible : IsFeasible required_chain (true ∷ true ∷ true ∷ [])
 required_feasible = (refl, All-two (Meets required_chain (true ∷ true ∷ true ∷ [])) (Requires 0 1) (Requires 1 2) (λ h. refl) (λ h. refl))
 
 required_closes : TreeCloses required_chain (true ∷ true ∷ true ∷ []) (open_node 3) (required_tree 21)
-required_closes = (refl,
+required_closes = (
+  refl,
   (refl, (refl, (required_fit 0 0, inr (refl, λ h. h)), (refl, (0, Requires 0 1, lit< tt, refl, (refl, refl)))), (required_fit 21 21, inl (record { lt = tt }))),
-  (required_fit 0 0, inl (record { lt = tt })))
+  (required_fit 0 0, inl (record { lt = tt })),
+)
 
 required_open : TreeCloses required_chain (true ∷ true ∷ true ∷ []) (open_node 3) (required_tree 20) → ⊥
 required_open k = ⊎_elim (λ a. absurd a.lt) (λ b. b.1 tt) k.1.2.1
 
 pub required_worked : RequiredChain
-required_worked = ((true ∷ true ∷ true ∷ [], required_tree 21, record { proof = required_21; feasible = required_feasible; closed = required_closes }),
-  tree_rejects required_chain (required_text (codes "m 20 20")) (true ∷ true ∷ true ∷ []) (required_tree 20) required_20 required_open)
+required_worked = (
+  (true ∷ true ∷ true ∷ [], required_tree 21, record { proof = required_21; feasible = required_feasible; closed = required_closes }),
+  tree_rejects required_chain (required_text (codes "m 20 20")) (true ∷ true ∷ true ∷ []) (required_tree 20) required_20 required_open,
+)

@@ -44,7 +44,7 @@ abbrev mixed_tree : Tree
 mixed_tree = branch 0 (leaf S.Segments (5 ∷ [])) (leaf S.Segments (3 ∷ []))
 
 mixed_proof : IsProof (proof_of mixed_pair (true ∷ false ∷ []) mixed_tree) (joined (codes "assort-proof 1" ∷ codes "model mixed" ∷ codes "set 10" ∷ codes "value 5"
-  ∷ codes "b 0" ∷ codes "s 5" ∷ codes "s 3" ∷ codes "end" ∷ []))
+    ∷ codes "b 0" ∷ codes "s 5" ∷ codes "s 3" ∷ codes "end" ∷ []))
 unfolding digits
 mixed_proof = record {
   lines = (refl, (refl, ((lit≤ tt, (lit< tt, (lit< tt, tt))), (whole (lit≤ tt), ((refl, (lit≤ tt, tt)), ((lit≤ tt, tt), ((lit≤ tt, tt), (refl, tt))))))));
@@ -60,9 +60,11 @@ mixed_fit node u small below = record {
 }
 
 mixed_closes : TreeCloses mixed_pair (true ∷ false ∷ []) (open_node 2) mixed_tree
-mixed_closes = (refl,
+mixed_closes = (
+  refl,
   (mixed_fit (In ∷ Open ∷ []) 5 (lit≤ tt) (record { lt = tt }), inr (refl, λ h. h)),
-  (mixed_fit (Out ∷ Open ∷ []) 3 (lit≤ tt) (record { lt = tt }), inl (lit< tt)))
+  (mixed_fit (Out ∷ Open ∷ []) 3 (lit≤ tt) (record { lt = tt }), inl (lit< tt)),
+)
 
 pub mixed_worked : MixedPair
 mixed_worked = (true ∷ false ∷ [], mixed_tree, record { proof = mixed_proof; feasible = (refl, λ k d l. absurd (omega arith)); closed = mixed_closes })
@@ -73,7 +75,7 @@ abbrev shelf_tree : Tree
 shelf_tree = branch 0 (leaf S.Shelf []) (branch 1 (branch 2 (leaf S.Shelf []) (leaf S.Shelf [])) (leaf S.Shelf []))
 
 shelf_proof : IsProof (proof_of shelf_of_three (false ∷ true ∷ true ∷ []) shelf_tree) (joined (codes "assort-proof 1" ∷ codes "model logit" ∷ codes "set 011" ∷ codes "value 32/8"
-  ∷ codes "b 0" ∷ codes "t" ∷ codes "b 1" ∷ codes "b 2" ∷ codes "t" ∷ codes "t" ∷ codes "t" ∷ codes "end" ∷ []))
+    ∷ codes "b 0" ∷ codes "t" ∷ codes "b 1" ∷ codes "b 2" ∷ codes "t" ∷ codes "t" ∷ codes "t" ∷ codes "end" ∷ []))
 unfolding digits
 shelf_proof = record {
   lines = (refl, (refl, ((lit≤ tt, (lit< tt, (lit< tt, (lit< tt, tt)))), (ratio (lit≤ tt) (lit≤ tt), ((refl, (lit≤ tt, tt)), (refl, ((refl, (lit≤ tt, tt)), ((refl, (lit≤ tt, tt)), (refl, (refl, (refl, (refl, tt))))))))))));
@@ -85,18 +87,26 @@ shelf_clear : (node : List Mark) → Meets shelf_of_three (fill_of node) (Shelf 
 shelf_clear node fits k = Any-one (ClashesAt shelf_of_three node) (Shelf 4) k fits
 
 shelf_closes : TreeCloses shelf_of_three (false ∷ true ∷ true ∷ []) (open_node 3) shelf_tree
-shelf_closes = (refl,
+shelf_closes = (
+  refl,
   (refl, shelf_clear (In ∷ Open ∷ Open ∷ []) (lit≤ tt), inl (record { lt = tt })),
-  (refl,
+  (
+    refl,
     (refl, (refl, shelf_clear (Out ∷ In ∷ In ∷ []) (lit≤ tt), inr (refl, λ h. h)), (refl, shelf_clear (Out ∷ In ∷ Out ∷ []) (lit≤ tt), inl (record { lt = tt }))),
-    (refl, shelf_clear (Out ∷ Out ∷ Open ∷ []) (lit≤ tt), inl (record { lt = tt }))))
+    (refl, shelf_clear (Out ∷ Out ∷ Open ∷ []) (lit≤ tt), inl (record { lt = tt })),
+  ),
+)
 
 pub shelf_worked : ShelfOfThree
-shelf_worked = (false ∷ true ∷ true ∷ [], shelf_tree, record {
-  proof = shelf_proof;
-  feasible = (refl, All-one (Meets shelf_of_three (false ∷ true ∷ true ∷ [])) (Shelf 4) (lit≤ tt));
-  closed = shelf_closes;
-})
+shelf_worked = (
+  false ∷ true ∷ true ∷ [],
+  shelf_tree,
+  record {
+    proof = shelf_proof;
+    feasible = (refl, All-one (Meets shelf_of_three (false ∷ true ∷ true ∷ [])) (Shelf 4) (lit≤ tt));
+    closed = shelf_closes;
+  },
+)
 
 -- ---- A price ladder.
 
@@ -107,8 +117,19 @@ abbrev ladder_set : List Bool
 ladder_set = false ∷ true ∷ false ∷ []
 
 ladder_lines : (u : ℕ) → u ≤ 2 ^ 108 → AreLines (lines_of (proof_of ladder_of_three ladder_set (ladder_tree u)))
-ladder_lines u h = (refl, (refl, ((lit≤ tt, (lit< tt, (lit< tt, (lit< tt, tt)))), (ratio (lit≤ tt) (lit≤ tt),
-  ((refl, (lit≤ tt, tt)), ((lit≤ tt, (lit≤ tt, (h, tt))), ((refl, (lit≤ tt, tt)), ((lit≤ tt, (lit≤ tt, (lit≤ tt, tt))), ((lit≤ tt, (lit≤ tt, (lit≤ tt, tt))), (refl, tt))))))))))
+ladder_lines u h = (
+  refl,
+  (
+    refl,
+    (
+      (lit≤ tt, (lit< tt, (lit< tt, (lit< tt, tt)))),
+      (
+        ratio (lit≤ tt) (lit≤ tt),
+        ((refl, (lit≤ tt, tt)), ((lit≤ tt, (lit≤ tt, (h, tt))), ((refl, (lit≤ tt, tt)), ((lit≤ tt, (lit≤ tt, (lit≤ tt, tt))), ((lit≤ tt, (lit≤ tt, (lit≤ tt, tt))), (refl, tt)))))),
+      ),
+    ),
+  ),
+)
 
 ladder_4 : IsProof (proof_of ladder_of_three ladder_set (ladder_tree 4)) (ladder_text (codes "p 0 0 4"))
 unfolding digits
@@ -171,9 +192,9 @@ third_alone node u zero_out one_out unused alone = record {
   unused = at_three (λ i. (IsUsable ladder_of_three node i → ⊥) → slice_index (0 ∷ 0 ∷ u ∷ []) i ≡ 0) (λ h. refl) (λ h. refl) unused;
   alone = at_three (UsedBy node (0 ∷ 0 ∷ u ∷ [])) (λ h. absurd (zero_out h)) (λ h. absurd (one_out h)) alone;
   chained = λ i j li lj. at_three (λ i. ChainedBy node (0 ∷ 0 ∷ u ∷ []) i j)
-    (λ h k. absurd (zero_out h))
-    (λ h k. absurd (one_out h))
-    (at_three (ChainedBy node (0 ∷ 0 ∷ u ∷ []) 2) (λ h k. absurd (zero_out k)) (λ h k. absurd (one_out k)) (λ h k s r. let up = r.0 in absurd (omega arith)) j lj) i li;
+      (λ h k. absurd (zero_out h))
+      (λ h k. absurd (one_out h))
+      (at_three (ChainedBy node (0 ∷ 0 ∷ u ∷ []) 2) (λ h k. absurd (zero_out k)) (λ h k. absurd (one_out k)) (λ h k s r. let up = r.0 in absurd (omega arith)) j lj) i li;
 }
 
 -- With the first product In the third is usable: its grade and its price are higher.
@@ -213,21 +234,32 @@ ladder_third_fit = third_alone (Out ∷ Out ∷ Open ∷ []) 4 (λ h. out_open h
     out_in e = cc
 
 ladder_closes : TreeCloses ladder_of_three ladder_set (open_node 3) (ladder_tree 4)
-ladder_closes = (refl,
+ladder_closes = (
+  refl,
   (ladder_clear (In ∷ Open ∷ Open ∷ []) (lone (true ∷ false ∷ false ∷ []) 0 first_alone), ladder_first_fit, inl (record { lt = tt })),
-  (refl,
+  (
+    refl,
     (ladder_clear (Out ∷ In ∷ Open ∷ []) (lone ladder_set 1 second_alone), ladder_second_fit, inr (refl, λ h. h)),
-    (ladder_clear (Out ∷ Out ∷ Open ∷ []) (lone (false ∷ false ∷ false ∷ []) 0 none_at_all), ladder_third_fit, inl (record { lt = tt }))))
+    (ladder_clear (Out ∷ Out ∷ Open ∷ []) (lone (false ∷ false ∷ false ∷ []) 0 none_at_all), ladder_third_fit, inl (record { lt = tt })),
+  ),
+)
 
 ladder_open : TreeCloses ladder_of_three ladder_set (open_node 3) (ladder_tree 3) → ⊥
 ladder_open k = let low : pos 4 ≤ℤ pos 3 = k.1.1.alone 2 (lit< tt) third_usable in absurd (omega (arith, ints))
 
 pub ladder_worked : LadderOfThree
-ladder_worked = ((ladder_set, ladder_tree 4, record {
-  proof = ladder_4;
-  feasible = (refl, All-one (Meets ladder_of_three ladder_set) (Ladder 1) (lone ladder_set 1 second_alone));
-  closed = ladder_closes;
-}), tree_rejects ladder_of_three (ladder_text (codes "p 0 0 3")) ladder_set (ladder_tree 3) ladder_3 ladder_open)
+ladder_worked = (
+  (
+    ladder_set,
+    ladder_tree 4,
+    record {
+      proof = ladder_4;
+      feasible = (refl, All-one (Meets ladder_of_three ladder_set) (Ladder 1) (lone ladder_set 1 second_alone));
+      closed = ladder_closes;
+    },
+  ),
+  tree_rejects ladder_of_three (ladder_text (codes "p 0 0 3")) ladder_set (ladder_tree 3) ladder_3 ladder_open,
+)
 
 -- ---- A chain.
 
