@@ -1,5 +1,5 @@
 -- There is at most one best assortment.
-use Rattle.std.proofs.Common.{◌≡◌, ◌≢◌, Bool, List, sym}
+use Rattle.std.proofs.Common.{◌≢◌, Bool, List, sym}
 use Rattle.offer_model.specs.Problems.{ProblemData}
 use Rattle.offer_model.specs.Best.{IsBest}
 use Rattle.offer_model.proofs.TieLemmas.{IsBefore-asym}

@@ -1,11 +1,11 @@
 -- What vectors that bracket a chain say of the customers' moves.
-use Rattle.std.proofs.Common.{◌≡◌, ℕ, suc, zero, Bool, true, false, cond, List, length, refl, sym, ◌∙◌, arith, ◌<◌, ◌≤◌, ◌+◌, ◌-◌, ◌*◌, ◌^◌, ◌/◌}
+use Rattle.std.proofs.Common.{◌≡◌, ℕ, suc, zero, Bool, true, false, cond, List, refl, arith, ◌<◌, ◌≤◌, ◌+◌, ◌*◌, ◌^◌, ◌/◌}
 use Rattle.std.specs.Prelude.{slice_index}
 use Rattle.std.proofs.Math.Nat.{mul-le-mul_left, pow-zero, pow-suc}
 use Rattle.offer_model.specs.Assortments.{offers, sum_below}
 use Rattle.offer_model.specs.Chains.{ChainData, place_count, parts_between, moved, arriving, customer_count, greatest_margin}
 use Rattle.offer_model.specs.Moves.{earned_within, walking_after, million, BringsAtMost, BringsAtLeast}
-use Rattle.offer_model.specs.Stopping.{own_value, value_bound, quotient_up}
+use Rattle.offer_model.specs.Stopping.{quotient_up}
 use Rattle.offer_model.specs.Brackets.{BoundsAbove, BoundsBelow}
 
 -- ---- Above.

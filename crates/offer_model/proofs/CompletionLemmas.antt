@@ -1,7 +1,7 @@
 -- Completions of a node, product by product.
 use Rattle.std.specs.Prelude.{◌==◌}
-use Rattle.std.proofs.Common.{◌≡◌, ℕ, Bool, true, false, cond, List, [], ◌∷◌, length, map, replicate, refl, arith, suc, zero, ◌<◌, ◌≤◌, ◌+◌, IsTrue}
-use Rattle.std.specs.Prelude.{pos, negsuc, ◌≤ℤ◌, ◌+ℤ◌, slice_set, All, Any}
+use Rattle.std.proofs.Common.{◌≡◌, ℕ, Bool, true, false, cond, List, [], ◌∷◌, length, refl, arith, suc, zero, ◌<◌, ◌≤◌}
+use Rattle.std.specs.Prelude.{pos, negsuc, ◌≤ℤ◌, slice_set}
 use Rattle.std.proofs.lemmas.Int.{ints}
 use lib.IntN.{ℤ}
 use Rattle.offer_model.specs.declared.node.Mark.{Mark}
@@ -11,7 +11,7 @@ use Rattle.offer_model.specs.declared.products.Limit.TheVariants.{Total, Categor
 use Rattle.offer_model.specs.Assortments.{offers, sum_below}
 use Rattle.offer_model.specs.Problems.{ProblemData, product_count, product_at}
 use Rattle.offer_model.specs.Limits.{Meets, IsFeasible}
-use Rattle.offer_model.specs.Nodes.{mark_at, open_node, Agrees, Completes, is_in, fill_of, settled_node, settled_mark, ClashesAt, Clashes}
+use Rattle.offer_model.specs.Nodes.{mark_at, open_node, Agrees, Completes, fill_of, settled_node, ClashesAt, Clashes}
 use Rattle.offer_model.specs.Prices.{Prices, worth_of, greatest_worth, most_of}
 use Rattle.offer_model.proofs.SumLemmas.{sum_mono, sum_le}
 

@@ -1,16 +1,14 @@
 -- Multipliers don't lower what an assortment is worth that keeps to the limits.
-use Rattle.std.proofs.Common.{◌≡◌, ℕ, Bool, true, false, cond, List, [], ◌∷◌, length, refl, arith, suc, zero, ◌<◌, ◌≤◌, ◌*◌, ◌+◌, ◌^◌, IsTrue, Some, None, Option, eqb, leb, sym, ap, ◌∙◌}
-use Rattle.std.specs.Prelude.{slice_index, pos, ◌+ℤ◌, ◌-ℤ◌, ◌≤ℤ◌}
+use Rattle.std.proofs.Common.{◌≡◌, ℕ, Bool, true, false, cond, List, [], ◌∷◌, length, refl, arith, suc, zero, ◌<◌, ◌≤◌, ◌*◌, ◌+◌, IsTrue, eqb, ap, ◌∙◌}
+use Rattle.std.specs.Prelude.{slice_index, ◌≤ℤ◌}
 use Rattle.std.specs.List.{AllByRecursion}
 use Rattle.std.proofs.lemmas.Int.{ints}
 use Rattle.std.proofs.Math.Nat.{mul-le-mul_left}
-use lib.IntN.{ℤ}
 use Rattle.offer_model.specs.declared.products.Limit.{Limit}
 use Rattle.offer_model.specs.declared.products.Limit.TheVariants.{Total, Category, Requires, Shelf, Ladder}
 use Rattle.offer_model.specs.Assortments.{offers, sum_below}
-use Rattle.offer_model.specs.Prices.{int_sum_below, Prices, worth_of}
+use Rattle.offer_model.specs.Prices.{Prices, worth_of}
 use Rattle.offer_model.specs.Problems.{ProblemData, product_count, product_at}
-use Rattle.offer_model.specs.Revenue.{sum_offered}
 use Rattle.offer_model.specs.Limits.{Meets, IsFeasible}
 use Rattle.offer_model.specs.LeafBounds.{relaxed, taken_off, added_to, allowed_in_all, taken_by, added_by, allowed_by, priced_limit_at, priced_limits, is_priced, MultipliersFit, multipliers_bound}
 use Rattle.offer_model.specs.declared.node.Mark.{Mark}

@@ -1,6 +1,6 @@
 -- Potentials bound what the products of ladders bring.
-use Rattle.std.proofs.Common.{◌≡◌, ◌≢◌, ℕ, Bool, true, false, cond, not, ◌&&◌, List, [], ◌∷◌, length, refl, arith, suc, zero, ◌<◌, ◌≤◌, ◌-◌, ◌+◌, max, eqb, leb, ltb, subst, inl, inr, ◌⊎◌, ⊎_elim, sym, ap, ◌∙◌, eq-eqb}
-use Rattle.std.specs.Prelude.{pos, negsuc, ◌+ℤ◌, ◌-ℤ◌, ◌≤ℤ◌, slice_index, IsTrue}
+use Rattle.std.proofs.Common.{◌≡◌, ◌≢◌, ℕ, Bool, true, false, cond, not, ◌&&◌, List, [], ◌∷◌, refl, arith, suc, zero, ◌<◌, ◌≤◌, ◌+◌, max, eqb, leb, ltb, subst, inl, inr, ◌⊎◌, ⊎_elim, sym, ap, ◌∙◌, eq-eqb}
+use Rattle.std.specs.Prelude.{pos, negsuc, ◌+ℤ◌, ◌≤ℤ◌, slice_index}
 use Rattle.std.specs.List.{AllByRecursion}
 use Rattle.std.proofs.lemmas.List.Elements.{recursion_from_All}
 use Rattle.std.proofs.lemmas.Int.{ints}
@@ -12,9 +12,9 @@ use Rattle.offer_model.specs.declared.node.Mark.TheVariants.{In, Out, Open}
 use Rattle.offer_model.specs.declared.products.Limit.{Limit}
 use Rattle.offer_model.specs.declared.products.Limit.TheVariants.{Total, Category, Requires, Shelf, Ladder}
 use Rattle.offer_model.specs.Assortments.{offers}
-use Rattle.offer_model.specs.Prices.{int_sum_below, Prices, worth_of, positive_part}
+use Rattle.offer_model.specs.Prices.{int_sum_below, Prices, worth_of}
 use Rattle.offer_model.specs.Problems.{ProblemData, product_count, product_at}
-use Rattle.offer_model.specs.Limits.{IsFeasible, Meets, MayStand}
+use Rattle.offer_model.specs.Limits.{IsFeasible, Meets}
 use Rattle.offer_model.specs.Nodes.{Agrees, Completes, settled_node, settled_mark}
 use Rattle.offer_model.specs.LeafBounds.{potentials_bound, PotentialsFit, IsUsable, is_limited, ladder_of, ladder_top, ladder_tops, most_beside}
 use Rattle.offer_model.proofs.CompletionLemmas.{Completes-agrees, settled_completes}

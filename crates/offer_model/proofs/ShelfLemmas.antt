@@ -1,8 +1,7 @@
 -- The table over products and space bounds every completion that fits.
-use Rattle.std.proofs.Common.{◌≡◌, ℕ, Bool, true, false, cond, List, [], ◌∷◌, length, refl, arith, suc, zero, ◌<◌, ◌≤◌, ◌-◌, ◌+◌, Some, None, Option, leb, eq-eqb}
-use Rattle.std.specs.Prelude.{pos, ◌+ℤ◌, ◌-ℤ◌, ◌≤ℤ◌}
+use Rattle.std.proofs.Common.{◌≡◌, ℕ, Bool, true, false, cond, List, [], ◌∷◌, arith, suc, zero, ◌≤◌, ◌-◌, ◌+◌, Some, None, Option, leb}
+use Rattle.std.specs.Prelude.{pos, ◌+ℤ◌, ◌≤ℤ◌}
 use Rattle.std.specs.List.{AllByRecursion}
-use Rattle.std.specs.Int.{int_max}
 use Rattle.std.proofs.lemmas.Int.{ints, clamps}
 use Rattle.std.proofs.lemmas.Bool.Decides.{nat_tests}
 use lib.IntN.{ℤ}
@@ -13,7 +12,6 @@ use Rattle.offer_model.specs.declared.products.Limit.TheVariants.{Total, Categor
 use Rattle.offer_model.specs.Assortments.{offers, sum_below}
 use Rattle.offer_model.specs.Prices.{int_sum_below, Prices, worth_of}
 use Rattle.offer_model.specs.Problems.{ProblemData, product_count, product_at}
-use Rattle.offer_model.specs.Revenue.{sum_offered}
 use Rattle.offer_model.specs.Limits.{Meets, IsFeasible}
 use Rattle.offer_model.specs.Nodes.{Agrees, Completes, mark_at, settled_node}
 use Rattle.offer_model.specs.LeafBounds.{greater_of, raised_by, leaving_out, offering, best_in_space, shelf_space, bound_in_space, shelf_bound}

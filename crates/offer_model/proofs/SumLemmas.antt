@@ -1,11 +1,11 @@
 -- Sums over products.
-use Rattle.std.proofs.Common.{◌≡◌, ℕ, Bool, true, false, cond, List, [], ◌∷◌, length, refl, ap, arith, suc, zero, ◌<◌, ◌≤◌, ◌*◌, ◌+◌}
+use Rattle.std.proofs.Common.{◌≡◌, ℕ, Bool, true, false, cond, refl, arith, suc, zero, ◌<◌, ◌≤◌, ◌*◌, ◌+◌}
 use Rattle.std.specs.Prelude.{pos, ◌+ℤ◌, ◌-ℤ◌, ◌≤ℤ◌}
 use Rattle.std.proofs.lemmas.Int.{ints}
 use Rattle.std.proofs.lemmas.Bool.Decides.{nat_tests}
 use Rattle.std.proofs.Common.{eqb}
 use lib.IntN.{ℤ}
-use Rattle.offer_model.specs.Assortments.{offers, sum_below}
+use Rattle.offer_model.specs.Assortments.{sum_below}
 use Rattle.offer_model.specs.Prices.{int_sum_below}
 
 pub sum_mono : (n : ℕ) (f g : ℕ → ℤ) → ((i : ℕ) → i < n → f i ≤ℤ g i) → int_sum_below n f ≤ℤ int_sum_below n g

@@ -1,5 +1,5 @@
 -- The order of assortments, and the completions of a node in it.
-use Rattle.std.proofs.Common.{◌≡◌, ◌≢◌, ℕ, Bool, true, false, List, [], ◌∷◌, length, map, refl, ap, sym, inl, inr, ◌⊎◌, arith, suc, zero}
+use Rattle.std.proofs.Common.{◌≡◌, Bool, true, false, List, [], ◌∷◌, length, refl, ap, inl, inr, ◌⊎◌, arith}
 use Rattle.offer_model.specs.declared.node.Mark.{Mark}
 use Rattle.offer_model.specs.declared.node.Mark.TheVariants.{In, Out, Open}
 use Rattle.offer_model.specs.Assortments.{IsBefore}

@@ -1,10 +1,9 @@
 -- What an assortment is worth at a revenue says whether it earns more than that.
-use Rattle.std.proofs.Common.{◌≡◌, ℕ, Bool, true, false, cond, List, [], ◌∷◌, length, refl, arith, suc, zero, ◌<◌, ◌≤◌, ◌*◌, ◌+◌, ◌/◌, sum}
+use Rattle.std.proofs.Common.{◌≡◌, ℕ, Bool, true, false, cond, List, length, arith, suc, zero, ◌<◌, ◌≤◌, ◌*◌, ◌+◌, ◌/◌}
 use Rattle.std.specs.Prelude.{pos, ◌+ℤ◌, ◌-ℤ◌, ◌≤ℤ◌, ◌<ℤ◌, slice_index}
 use Rattle.std.proofs.lemmas.Int.{ints}
-use lib.IntN.{ℤ}
 use Rattle.offer_model.specs.Assortments.{offers, sum_below}
-use Rattle.offer_model.specs.Prices.{int_sum_below, Prices, worth_of, prices_at, prices_above, greatest_worth}
+use Rattle.offer_model.specs.Prices.{int_sum_below, worth_of, prices_at, prices_above, greatest_worth}
 use Rattle.offer_model.specs.Problems.{ProblemData, SegmentData, product_count, segment_at, margin_of, attraction_of, shadow_of, first_segment}
 use Rattle.offer_model.specs.Revenue.{gain_of, weight_of, value_of, segment_value}
 use Rattle.offer_model.specs.LeafBounds.{SegmentsFit, segments_bound}

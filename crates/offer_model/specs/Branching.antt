@@ -1,7 +1,7 @@
 -- Which product a branch is on. Own.
 use Rattle.std.specs.Prelude.{◌≡◌, ◌≢◌, ℕ, ◌<◌, ◌⊎◌, List}
 use Rattle.offer_model.specs.declared.node.Mark.{Mark}
-use Rattle.offer_model.specs.declared.node.Mark.TheVariants.{In, Out, Open}
+use Rattle.offer_model.specs.declared.node.Mark.TheVariants.{Open}
 use Rattle.offer_model.specs.Problems.{ProblemData, margin_of}
 use Rattle.offer_model.specs.Nodes.{mark_at}
 

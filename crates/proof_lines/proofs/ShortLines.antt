@@ -1,14 +1,12 @@
 -- No line of an accepted text is long.
-use Rattle.std.proofs.Common.{◌≡◌, ℕ, suc, zero, Bool, true, false, List, [], ◌∷◌, ◌++◌, length, map, refl, sym, ◌∙◌, ap, arith, ◌<◌, ◌≤◌, ◌+◌, ◌*◌, ◌^◌, length-append}
+use Rattle.std.proofs.Common.{ℕ, Bool, List, [], ◌∷◌, length, ap, arith, ◌<◌, ◌≤◌}
 use Rattle.std.specs.List.{AllByRecursion}
-use Rattle.std.specs.Fmt.{decimal}
 use Rattle.std.specs.Prelude.{slice_set}
 use Rattle.std.proofs.lemmas.List.{length-map}
-use Rattle.std.proofs.lemmas.Fmt.{length-decimal-le_wide}
 use Rattle.offer_model.specs.declared.products.ModelName.{ModelName}
 use Rattle.offer_model.specs.declared.products.ModelName.TheVariants.{Logit, Attract, Mixed, Chain}
 use Rattle.offer_model.specs.declared.node.Mark.{Mark}
-use Rattle.offer_model.specs.declared.node.Mark.TheVariants.{In, Out, Open}
+use Rattle.offer_model.specs.declared.node.Mark.TheVariants.{In, Out}
 use Rattle.offer_model.specs.Problems.{ProblemData, product_count}
 use Rattle.offer_model.specs.Nodes.{open_node}
 use Rattle.offer_model.specs.LeafBounds.{priced_limits}
@@ -16,8 +14,7 @@ use Rattle.offer_model.specs.Chains.{ChainData, place_count}
 use Rattle.offer_model.specs.Stopping.{StoppingData}
 use Rattle.proof_lines.specs.declared.line.Shape.{Shape}
 use Rattle.proof_lines.specs.declared.line.Shape.TheVariants as S
-use Rattle.proof_lines.specs.Lines.{LineData, line, most_number, spaced, digits_text, value_text, line_text, model_text, AreNumbers, IsValue, IsLine, AreLines}
-use Rattle.proof_lines.specs.Lines.IsValue.{whole, ratio, bounds}
+use Rattle.proof_lines.specs.Lines.{LineData, line, line_text, IsLine, AreLines}
 use Rattle.proof_lines.specs.Trees.{Tree, tree_lines, lines_of}
 use Rattle.proof_lines.specs.Trees.Tree.{leaf, branch}
 use Rattle.proof_lines.specs.Closing.{own_prices, PricesClose, SegmentsClose, ClosesUnder, Closes, TreeCloses}

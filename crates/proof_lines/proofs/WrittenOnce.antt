@@ -1,20 +1,18 @@
 -- What the forms of written certificates fix.
-use Rattle.std.proofs.Common.{◌≡◌, ◌≢◌, ℕ, suc, zero, Bool, true, false, cond, ◌||◌, List, [], ◌∷◌, length, replicate, Option, Some, None, refl, sym, ◌∙◌, ap, subst, arith, inl, inr, ◌⊎◌, ⊎_elim, ltb, eqb, ◌<◌, ◌≤◌, ◌+◌, ◌/◌}
+use Rattle.std.proofs.Common.{◌≡◌, ℕ, suc, zero, Bool, true, false, cond, ◌||◌, List, [], ◌∷◌, length, Option, Some, None, refl, sym, ◌∙◌, ap, subst, arith, inl, inr, ◌⊎◌, ⊎_elim, eqb, ◌<◌, ◌≤◌, ◌+◌, ◌/◌}
 use Rattle.std.specs.Prelude.{slice_index, slice_set, nat_lt}
 use Rattle.std.specs.Bool.{MatchBool}
 use Rattle.std.proofs.lemmas.Bool.{cases_lt, cases_eq}
 use Rattle.offer_model.specs.declared.node.Mark.{Mark}
-use Rattle.offer_model.specs.declared.node.Mark.TheVariants.{In, Out, Open}
+use Rattle.offer_model.specs.declared.node.Mark.TheVariants.{In, Out}
 use Rattle.offer_model.specs.declared.products.ModelName.{ModelName}
 use Rattle.offer_model.specs.declared.products.ModelName.TheVariants.{Logit, Attract, Mixed, Chain}
 use Rattle.offer_model.specs.Assortments.{offers}
-use Rattle.offer_model.specs.Problems.{SegmentData, ProblemData, product_count, margin_of, segment_at}
-use Rattle.offer_model.specs.Revenue.{segment_value}
+use Rattle.offer_model.specs.Problems.{SegmentData, ProblemData, product_count, segment_at}
 use Rattle.offer_model.specs.Best.{IsBest}
-use Rattle.offer_model.specs.Nodes.{mark_at, open_node, Clashes}
-use Rattle.offer_model.specs.LeafBounds.{priced_limits}
+use Rattle.offer_model.specs.Nodes.{open_node, Clashes}
 use Rattle.offer_model.specs.Branching.{GoesFirst, IsFirstOpen, IsDearestOpen}
-use Rattle.offer_model.specs.NodeValues.{IsGreatestValue, AreGreatestValues}
+use Rattle.offer_model.specs.NodeValues.{IsGreatestValue}
 use Rattle.offer_model.specs.Chains.{ChainData, place_count, arriving, customer_count}
 use Rattle.offer_model.specs.Stopping.{StoppingData, IsGreatest, IsStopping, own_value, value_bound, quotient_up, upper_step, lower_step}
 use Rattle.offer_model.proofs.BestLemmas.{IsBest-unique}
@@ -24,7 +22,7 @@ use Rattle.proof_lines.specs.Lines.{text_of}
 use Rattle.proof_lines.specs.Trees.{Tree, lines_of}
 use Rattle.proof_lines.specs.Trees.Tree.{leaf, branch}
 use Rattle.proof_lines.specs.Closing.{Closes}
-use Rattle.proof_lines.specs.Acceptance.{proof_of, IsAccepted, chain_lines}
+use Rattle.proof_lines.specs.Acceptance.{proof_of, chain_lines}
 use Rattle.proof_lines.specs.Writing.{Rule, IsPathLeaf, IsPath, IsSearchTree, ratio_rule, mixed_rule, exact_leaf, offered_end, RatioForm, FormUnder, IsWrittenBy, IsWritten, IsWrittenChain}
 use Rattle.proof_lines.specs.Laws.{branch_count, IsPathUnder, IsFixedUnder}
 

@@ -1,5 +1,5 @@
 -- Small certificates, accepted and rejected. Each catalogue names its products' margins and attractions in order.
-use Rattle.std.specs.Prelude.{ℕ, Bool, true, false, List, [], ◌∷◌, ◌++◌, codes}
+use Rattle.std.specs.Prelude.{ℕ, List, [], ◌∷◌, ◌++◌, codes}
 use Rattle.offer_model.specs.declared.products.ModelName.{ModelName}
 use Rattle.offer_model.specs.declared.products.ModelName.TheVariants.{Logit, Mixed}
 use Rattle.offer_model.specs.declared.products.Product.{Product}

@@ -4,7 +4,7 @@ use Prim.Native.Nat.{zero, suc}
 use Rattle.std.specs.Bool.{MatchBool}
 use Rattle.std.specs.List.{list_all}
 use Rattle.offer_model.specs.declared.node.Mark.{Mark}
-use Rattle.offer_model.specs.declared.node.Mark.TheVariants.{In, Out, Open}
+use Rattle.offer_model.specs.declared.node.Mark.TheVariants.{In, Out}
 use Rattle.offer_model.specs.declared.products.ModelName.{ModelName}
 use Rattle.offer_model.specs.declared.products.ModelName.TheVariants.{Logit, Attract, Mixed, Chain}
 use Rattle.offer_model.specs.declared.products.Limit.{Limit}
