@@ -1,4 +1,5 @@
 pub mod DigitLemmas
+pub mod WorkedValueLemmas
 pub mod SumLemmas
 pub mod TieLemmas
 pub mod CompletionLemmas

@@ -7,6 +7,7 @@ pub mod Validity
 pub mod Revenue
 pub mod Limits
 pub mod Best
+pub mod WorkedValues
 pub mod Nodes
 pub mod Prices
 pub mod LeafBounds

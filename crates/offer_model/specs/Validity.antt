@@ -72,6 +72,16 @@ IsPlainModel Attract = ⊥
 IsPlainModel Mixed = Unit {0}
 IsPlainModel Chain = ⊥
 
+-- The limits may stand in the problem: not too many, in range, of products, categories and ladders that it has, and none
+-- repeats an earlier one.
+pub record HasLimits (p : ProblemData) : Type 0 where
+  pub few : length p.limits ≤ MOST_LIMITS
+  pub few_requires : count_by is_requires p.limits ≤ MOST_REQUIRES
+  pub in_range : All IsInRange p.limits
+  pub named : All (NamesExisting p) p.limits
+  pub once : AllPairs (λ a b. Repeats a b → ⊥) p.limits
+
+-- The numbers are in their ranges and fit together, as the model asks.
 pub record IsProblem (p : ProblemData) : Type 0 where
   pub model : p.model ≢ Chain
   pub unit : IsPositiveAmount p.unit
@@ -81,10 +91,6 @@ pub record IsProblem (p : ProblemData) : Type 0 where
   pub segments : All IsSegment p.segments
   pub each : All (λ g. length g.attract ≡ product_count p) p.segments
   pub sizes : sum_by (λ g. g.size * p.unit) p.segments ≤ MOST_AMOUNT
-  pub few_limits : length p.limits ≤ MOST_LIMITS
-  pub few_requires : count_by is_requires p.limits ≤ MOST_REQUIRES
-  pub in_range : All IsInRange p.limits
-  pub named : All (NamesExisting p) p.limits
-  pub once : AllPairs (λ a b. Repeats a b → ⊥) p.limits
+  pub limits : HasLimits p
   pub single : IsRatioModel p.model → (p.unit ≡ 1) × (length p.segments ≡ 1) × ((first_segment p).size ≡ 1)
   pub plain : IsPlainModel p.model → All (λ g. (i : ℕ) → shadow_of g i ≡ 0) p.segments

@@ -3,6 +3,7 @@
 
 mod arc;
 mod assortment;
+mod laws;
 mod lists;
 mod memory;
 mod node;
@@ -16,6 +17,7 @@ mod texts;
 
 pub use arc::Arc;
 pub use assortment::Assortment;
+pub use laws::worked_values_hold;
 pub use lists::{Bytes, Items, Limits, Numbers, Products, Segments, Wide};
 pub use memory::NoMemory;
 pub use node::{Mark, Node};

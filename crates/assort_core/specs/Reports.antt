@@ -1,0 +1,53 @@
+-- What the commands print. Own.
+use Rattle.std.specs.Prelude.{ℕ, List, [], ◌∷◌, ◌++◌, Bool, true, false, codes, decimal, map, if◌then◌else◌}
+use Rattle.offer_model.specs.declared.products.ModelName.{ModelName}
+use Rattle.offer_model.specs.declared.products.ModelName.TheVariants.{Logit, Attract, Mixed, Chain}
+use Rattle.offer_model.specs.Problems.{ProblemData, product_count, first_segment}
+use Rattle.offer_model.specs.Revenue.{gain_of, weight_of}
+use Rattle.catalogue.specs.Rows.{RowData}
+
+abbrev pub model_text : ModelName → List ℕ
+model_text Logit = codes "logit"
+model_text Attract = codes "attract"
+model_text Mixed = codes "mixed"
+model_text Chain = codes "chain"
+
+-- 1 for a product that is offered, 0 for another.
+abbrev pub digit_of : Bool → ℕ
+digit_of true = 49
+digit_of false = 48
+
+-- An assortment as digits in catalogue order, - without products.
+abbrev pub word_text : List Bool → List ℕ
+word_text [] = codes "-"
+word_text (b ∷ x) = map digit_of (b ∷ x)
+
+-- The model and the number of products.
+abbrev pub head_lines : ProblemData → List ℕ
+head_lines p = codes "model " ++ model_text p.model ++ codes "\nproducts " ++ decimal (product_count p) ++ codes "\n"
+
+-- The assortment.
+abbrev pub set_line : List Bool → List ℕ
+set_line x = codes "set " ++ word_text x ++ codes "\n"
+
+-- What it earns, as gain over weight, unreduced.
+abbrev pub value_line : ProblemData → List Bool → List ℕ
+value_line p x = codes "value " ++ decimal (gain_of p (first_segment p) x) ++ codes "/" ++ decimal (weight_of p (first_segment p) x) ++ codes "\n"
+
+-- A product that is offered.
+abbrev pub offer_line : List ℕ → List ℕ
+offer_line name = codes "offer " ++ name ++ codes "\n"
+
+abbrev pub offer_line_if : Bool → List ℕ → List ℕ
+offer_line_if true name = offer_line name
+offer_line_if false name = []
+
+-- A line for each product that is offered, in catalogue order.
+abbrev pub offer_lines : List RowData → List Bool → List ℕ
+offer_lines [] x = []
+offer_lines (row ∷ rows) [] = []
+offer_lines (row ∷ rows) (b ∷ x) = offer_line_if b row.name ++ offer_lines rows x
+
+-- The report of an assortment.
+abbrev pub problem_report : List RowData → ProblemData → List Bool → List ℕ
+problem_report rows p x = head_lines p ++ offer_lines rows x ++ set_line x ++ value_line p x

@@ -1,0 +1,125 @@
+ghost use Rattle.std.specs.Prelude.{◌≡◌};
+ghost use Rattle.std.specs.Option.{option_copied};
+
+use crate::usage::{Command, Key};
+use crate::values::{read_amount, read_model, read_name};
+use offer_model::ModelName;
+use std::marker::Model;
+
+/// What is asked for. It borrows its texts from the words.
+#[derive(Drop)]
+pub struct Request<'a> {
+    pub(crate) command: Command,
+    pub(crate) model: Option<ModelName>,
+    pub(crate) products: Option<&'a str>,
+    pub(crate) none: Option<u64>,
+}
+
+impl<'a> Model for Request<'a> {
+    ghost use Rattle.std.specs.Option.{option_copied};
+    ghost use Rattle.assort_core.specs.Asked.{RequestData, IsInDomains};
+
+    ghost Value = { RequestData };
+
+    ghost view = { λ r. record { command = r.command; model = r.model; products = option_copied r.products; none = r.none } };
+
+    ghost invariant = { λ r. IsInDomains (record { command = r.command; model = r.model; products = option_copied r.products; none = r.none }) };
+}
+
+impl<'a> Request<'a> {
+    ghost use Rattle.assort_core.specs.Asked.{bare_request, with_value, is_given, IsInDomains};
+
+    /// A command, and no key yet.
+    pub(crate) fn bare(command: Command) -> Request<'a>
+        ensures { result ≡ bare_request command }
+    {
+        Request {
+            command,
+            model: None,
+            products: None,
+            none: None,
+        }
+    }
+
+    /// Whether the key is given.
+    pub(crate) fn has(&self, key: Key) -> bool
+        ensures { result ≡ is_given self.now key }
+    {
+        match key {
+            Key::Model => self.model.is_some(),
+            Key::Products => self.products.is_some(),
+            Key::NoneWeight => self.none.is_some(),
+            Key::NoKey => false,
+        }
+    }
+
+    /// The request with one more key, where the word is one of the key's values.
+    pub(crate) fn with_value(self, key: Key, word: &'a str) -> Option<Request<'a>>
+        ensures { result ≡ with_value self.entry key word.now }
+    {
+        let Request {
+            command,
+            model,
+            products,
+            none,
+        } = self;
+        match key {
+            Key::Model => {
+                let model = read_model(word)?;
+                Some(Request {
+                    command,
+                    model: Some(model),
+                    products,
+                    none,
+                })
+            }
+            Key::Products => {
+                let name = read_name(word)?;
+                Some(Request {
+                    command,
+                    model,
+                    products: Some(name),
+                    none,
+                })
+            }
+            Key::NoneWeight => {
+                let none = read_amount(word)?;
+                Some(Request {
+                    command,
+                    model,
+                    products,
+                    none: Some(none),
+                })
+            }
+            Key::NoKey => None,
+        }
+    }
+
+    pub fn command(&self) -> Command
+        ensures { result ≡ self.now.command }
+    {
+        self.command
+    }
+
+    /// `None` exactly where the key isn't given; so do the next two.
+    pub fn model(&self) -> Option<ModelName>
+        ensures value { result ≡ self.now.model }
+        ensures valid { IsInDomains self.now }
+    {
+        self.model
+    }
+
+    pub fn products(&self) -> Option<&'a str>
+        ensures value { option_copied result ≡ self.now.products }
+        ensures valid { IsInDomains self.now }
+    {
+        self.products
+    }
+
+    pub fn none(&self) -> Option<u64>
+        ensures value { result ≡ self.now.none }
+        ensures valid { IsInDomains self.now }
+    {
+        self.none
+    }
+}

@@ -1,0 +1,40 @@
+/// What the program is asked to do.
+#[derive(Clone, Copy, Debug, PartialEq, Eq)]
+pub enum Command {
+    Solve,
+}
+
+/// The keys of the command line, in the order in which a missing one is named.
+#[derive(Clone, Copy, Debug, PartialEq, Eq)]
+pub enum Key {
+    Model,
+    Products,
+    /// `--none`, the weight of buying nothing.
+    NoneWeight,
+    /// A fault that is about no key has this one.
+    NoKey,
+}
+
+/// Why words are refused.
+#[derive(Clone, Copy, Debug, PartialEq, Eq)]
+pub enum UsageCode {
+    NoCommand,
+    UnknownCommand,
+    UnknownOption,
+    RepeatedOption,
+    MissingValue,
+    /// Nested logit is refused by its name.
+    Nested,
+    BadValue,
+    MissingOption,
+}
+
+/// The first refusal of words.
+#[derive(Clone, Copy, Debug, PartialEq, Eq)]
+pub struct UsageFault {
+    pub code: UsageCode,
+    /// Words are counted from 1; 0 where the fault is at no word.
+    pub word: usize,
+    /// The key that is missing, else `NoKey`.
+    pub key: Key,
+}

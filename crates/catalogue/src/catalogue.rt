@@ -1,0 +1,116 @@
+ghost use Rattle.std.specs.Prelude.{◌≡◌, ◌<◌, length};
+ghost use Rattle.catalogue.specs.Rows.{row_at, IsCatalogue};
+
+use offer_model::Product;
+use std::marker::Model;
+
+/// A product of the catalogue, with its name and what the choice models read of it.
+#[derive(Drop)]
+pub struct Row {
+    pub name: String,
+    pub product: Product,
+    pub attraction: u64,
+    pub shadow: u64,
+    pub arrival: u64,
+}
+
+impl Model for Row {
+    ghost use Rattle.std.specs.Prelude.{[], string_bytes};
+    ghost use Rattle.catalogue.specs.Rows.{RowData};
+
+    ghost Value = { RowData };
+
+    ghost view = { λ r. record {
+      name = string_bytes r.name;
+      product = r.product;
+      attraction = r.attraction;
+      shadow = r.shadow;
+      arrival = r.arrival;
+      category = [];
+      ladder = [];
+    } };
+}
+
+/// The products that there are, in file order.
+#[derive(Drop)]
+pub struct Catalogue {
+    rows: Vec<Row>,
+}
+
+impl Model for Catalogue {
+    ghost use Rattle.std.specs.Prelude.{List};
+    ghost use Rattle.catalogue.specs.Rows.{RowData, IsCatalogue};
+
+    ghost Value = { List RowData };
+
+    ghost view = { λ c. c.rows.items };
+
+    ghost invariant = { λ c. IsCatalogue c.rows.items };
+}
+
+impl Catalogue {
+    pub(crate) fn new(rows: Vec<Row>) -> Catalogue
+        requires { IsCatalogue rows.items }
+        ensures { result ≡ rows.items }
+    {
+        Catalogue { rows }
+    }
+
+    /// The number of products.
+    pub fn len(&self) -> usize
+        ensures value { result ≡ length self.now }
+        ensures valid { IsCatalogue self.now }
+    {
+        self.rows.len()
+    }
+
+    /// The name of product `i`.
+    pub fn name(&self, i: usize) -> &str
+        requires { i < length self.now }
+        ensures value { result.now ≡ (row_at self.now i).name }
+        ensures valid { IsCatalogue self.now }
+    {
+        let row = &self.rows[i];
+        row.name.as_str()
+    }
+
+    /// What the limits and the revenue read of product `i`.
+    pub fn product(&self, i: usize) -> Product
+        requires { i < length self.now }
+        ensures value { result ≡ (row_at self.now i).product }
+        ensures valid { IsCatalogue self.now }
+    {
+        let row = &self.rows[i];
+        row.product
+    }
+
+    /// The attraction of product `i` where it is offered.
+    pub fn attract(&self, i: usize) -> u64
+        requires { i < length self.now }
+        ensures value { result ≡ (row_at self.now i).attraction }
+        ensures valid { IsCatalogue self.now }
+    {
+        let row = &self.rows[i];
+        row.attraction
+    }
+
+    /// The shadow attraction of product `i`, which stays where it isn't offered.
+    pub fn shadow(&self, i: usize) -> u64
+        requires { i < length self.now }
+        ensures value { result ≡ (row_at self.now i).shadow }
+        ensures valid { IsCatalogue self.now }
+    {
+        let row = &self.rows[i];
+        row.shadow
+    }
+
+    /// How many customers arrive at product `i`, as a weight.
+    pub fn arrival(&self, i: usize) -> u64
+        requires { i < length self.now }
+        ensures value { result ≡ (row_at self.now i).arrival }
+        ensures valid { IsCatalogue self.now }
+    {
+        let row = &self.rows[i];
+        row.arrival
+    }
+}

@@ -1,0 +1,9 @@
+pub mod Causes
+pub mod Stores
+pub mod Sinks
+pub mod Plans
+pub mod Entries
+pub mod HostDevices
+pub mod MemoryStores
+pub mod ReadyStores
+pub mod MemorySinks
