@@ -71,3 +71,20 @@ impl Node {
         self.marks.copy_from_slice(&other.marks);
     }
 }
+
+#[cfg(test)]
+mod tests {
+    use super::{Mark, Node};
+
+    #[test]
+    fn a_node_is_marked_and_copied(rt: HostRuntime) {
+        let mut node = Node::open(rt.alloc(), 3).expect(&rt, "memory");
+        let mut other = Node::open(rt.alloc(), 3).expect(&rt, "memory");
+        node.set(1, Mark::In);
+        node.set(2, Mark::Out);
+        other.copy_from(&node);
+        assert!(rt;
+            other.mark(0) == Mark::Open && other.mark(1) == Mark::In && other.mark(2) == Mark::Out
+        );
+    }
+}

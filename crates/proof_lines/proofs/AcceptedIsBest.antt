@@ -1,23 +1,23 @@
 -- Whoever wrote an accepted text, its assortment is the best one.
-use Rattle.std.proofs.Common.{◌≡◌, ◌≢◌, ℕ, Bool, true, false, cond, List, [], ◌∷◌, length, replicate, refl, arith, suc, zero, ◌<◌, ◌≤◌, ◌*◌, ◌+◌, Some, None, Option, sym, ◌∙◌, inl, inr, ◌⊎◌, ⊎_elim}
+use Rattle.std.proofs.Common.{◌≡◌, ◌≢◌, ℕ, Bool, true, false, List, length, refl, arith, suc, zero, ◌<◌, Some, None, Option, sym, ◌∙◌, inl, inr, ⊎_elim}
 use Rattle.std.proofs.Math.ListN.{length-set}
-use Rattle.std.specs.Prelude.{slice_set, pos, ◌+ℤ◌, ◌-ℤ◌, ◌≤ℤ◌, ◌<ℤ◌}
+use Rattle.std.specs.Prelude.{slice_set, ◌≤ℤ◌}
 use Rattle.std.proofs.lemmas.Int.{ints}
 use lib.IntN.{ℤ}
 use Rattle.offer_model.specs.declared.products.ModelName.{ModelName}
 use Rattle.offer_model.specs.declared.products.ModelName.TheVariants.{Logit, Attract, Mixed, Chain}
 use Rattle.offer_model.specs.declared.node.Mark.{Mark}
-use Rattle.offer_model.specs.declared.node.Mark.TheVariants.{In, Out, Open}
+use Rattle.offer_model.specs.declared.node.Mark.TheVariants.{In, Out}
 use Rattle.proof_lines.specs.declared.line.Shape.{Shape}
 use Rattle.proof_lines.specs.declared.line.Shape.TheVariants as S
 use Rattle.offer_model.specs.Assortments.{offers, IsBefore}
 use Rattle.offer_model.specs.Problems.{ProblemData, product_count, first_segment}
-use Rattle.offer_model.specs.Revenue.{gain_of, weight_of, value_of, EarnsMore, EarnsMoreUnder, EarnsMoreByRatio}
+use Rattle.offer_model.specs.Revenue.{gain_of, weight_of, value_of, EarnsMoreUnder, EarnsMoreByRatio}
 use Rattle.offer_model.specs.Limits.{IsFeasible}
 use Rattle.offer_model.specs.Best.{IsBest}
-use Rattle.offer_model.specs.Nodes.{Completes, fill_of, mark_at, open_node}
-use Rattle.offer_model.specs.Prices.{Prices, worth_of, prices_at}
-use Rattle.offer_model.specs.LeafBounds.{MultipliersFit, multipliers_bound, shelf_bound, potentials_bound, segments_bound}
+use Rattle.offer_model.specs.Nodes.{Completes, open_node}
+use Rattle.offer_model.specs.Prices.{worth_of}
+use Rattle.offer_model.specs.LeafBounds.{multipliers_bound, shelf_bound, potentials_bound}
 use Rattle.proof_lines.specs.Trees.{Tree}
 use Rattle.proof_lines.specs.Trees.Tree.{leaf, branch}
 use Rattle.proof_lines.specs.Closing.{BoundCloses, own_prices, PricesClose, SegmentsClose, ClosesUnder, Closes, TreeCloses}

@@ -1,8 +1,8 @@
 -- Whoever wrote an accepted text of a chain, its bounds bracket what its assortment and every other bring.
-use Rattle.std.proofs.Common.{◌≡◌, ℕ, List, ◌*◌, ◌≤◌, ◌/◌, sym}
+use Rattle.std.proofs.Common.{ℕ, List}
 use Rattle.std.specs.Prelude.{slice_index}
-use Rattle.offer_model.specs.Chains.{ChainData, arriving, customer_count}
-use Rattle.offer_model.specs.Stopping.{StoppingData, quotient_up}
+use Rattle.offer_model.specs.Chains.{ChainData}
+use Rattle.offer_model.specs.Stopping.{StoppingData}
 use Rattle.offer_model.specs.Claims.{IsBracketed}
 use Rattle.proof_lines.specs.Acceptance.{Brackets, IsAcceptedChain}
 use Rattle.offer_model.proofs.BracketLemmas.{brings_at_most, brings_at_least, arriving-le_quotient_up, quotient-le_arriving}

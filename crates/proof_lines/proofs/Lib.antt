@@ -11,5 +11,6 @@ pub mod RejectionLemmas
 pub mod WorkedLists
 pub mod WorkedMultipliers
 pub mod WorkedProofs
+pub mod CallerLemmas
 pub mod ShortLines
 pub mod WrittenOnce

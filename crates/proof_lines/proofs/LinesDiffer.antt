@@ -1,10 +1,10 @@
 -- Two lines of one text are one line.
-use Rattle.std.proofs.Common.{◌≡◌, ℕ, suc, zero, Bool, true, false, cond, List, [], ◌∷◌, ◌++◌, length, map, refl, sym, ◌∙◌, ap, subst, arith, eqb, ◌<◌, ◌≤◌, ◌+◌, ◌^◌, get_or, append-nil, lit<}
+use Rattle.std.proofs.Common.{◌≡◌, ℕ, false, List, [], ◌∷◌, ◌++◌, map, refl, sym, ◌∙◌, ap, subst, arith, ◌≤◌, ◌+◌, append-nil}
 use Rattle.std.specs.Fmt.{decimal}
 use Rattle.offer_model.specs.declared.products.ModelName.TheVariants.{Logit, Attract, Mixed, Chain}
 use Rattle.proof_lines.specs.declared.line.Shape.{Shape}
 use Rattle.proof_lines.specs.declared.line.Shape.TheVariants as S
-use Rattle.proof_lines.specs.Lines.{most_number, spaced, model_text, digits_text, value_text, line_text, AreNumbers, IsValue, IsLine}
+use Rattle.proof_lines.specs.Lines.{most_number, digits_text, value_text, line_text, IsValue, IsLine}
 use Rattle.proof_lines.specs.Lines.IsValue.{whole, ratio, bounds}
 use Rattle.proof_lines.specs.Reading.{shape_by_head}
 use Rattle.std.specs.Char.{is_ascii_digit}

@@ -1,15 +1,15 @@
 -- Why a text isn't accepted.
-use Rattle.std.proofs.Common.{◌≡◌, ℕ, suc, zero, Bool, true, List, [], ◌∷◌, ◌++◌, length, map, refl, sym, ◌∙◌, ap, subst, arith, ◌<◌, ◌≤◌, ◌+◌, ◌*◌}
+use Rattle.std.proofs.Common.{◌≡◌, ℕ, Bool, true, List, [], ◌∷◌, ◌++◌, length, refl, sym, ◌∙◌, ap, subst, arith, ◌+◌, ◌*◌}
 use Rattle.std.specs.List.{AllByRecursion}
 use Rattle.offer_model.specs.Problems.{ProblemData, product_count}
 use Rattle.offer_model.specs.Nodes.{open_node}
 use Rattle.proof_lines.specs.declared.line.Shape.{Shape}
 use Rattle.proof_lines.specs.declared.line.Shape.TheVariants as S
-use Rattle.proof_lines.specs.Lines.{LineData, line, line_text, IsLine, IsLineText, AreLines, text_of}
-use Rattle.proof_lines.specs.Trees.{Tree, IsLeaf, HasLeaves, tree_lines, ProofData, lines_of, IsProof}
+use Rattle.proof_lines.specs.Lines.{LineData, line, line_text, IsLineText, AreLines, text_of}
+use Rattle.proof_lines.specs.Trees.{Tree, IsLeaf, HasLeaves, tree_lines, lines_of, IsProof}
 use Rattle.proof_lines.specs.Trees.Tree.{leaf, branch}
 use Rattle.proof_lines.specs.Closing.{TreeCloses}
-use Rattle.proof_lines.specs.Acceptance.{proof_of, IsAccepted, Accepts}
+use Rattle.proof_lines.specs.Acceptance.{proof_of, Accepts}
 use Rattle.proof_lines.specs.WorkedProofs.{joined}
 use Rattle.proof_lines.proofs.FeedLemmas.{clean, clean_line, feed_split, text_of-one}
 use Rattle.proof_lines.proofs.ProofsDiffer.{first_line, proofs_differ, digits_of-one}

@@ -1,14 +1,12 @@
 -- No line of an accepted text is long.
-use Rattle.std.proofs.Common.{◌≡◌, ℕ, suc, zero, Bool, true, false, List, [], ◌∷◌, ◌++◌, length, map, refl, sym, ◌∙◌, ap, arith, ◌<◌, ◌≤◌, ◌+◌, ◌*◌, ◌^◌, length-append}
+use Rattle.std.proofs.Common.{ℕ, Bool, List, [], ◌∷◌, length, ap, arith, ◌<◌, ◌≤◌}
 use Rattle.std.specs.List.{AllByRecursion}
-use Rattle.std.specs.Fmt.{decimal}
 use Rattle.std.specs.Prelude.{slice_set}
 use Rattle.std.proofs.lemmas.List.{length-map}
-use Rattle.std.proofs.lemmas.Fmt.{length-decimal-le_wide}
 use Rattle.offer_model.specs.declared.products.ModelName.{ModelName}
 use Rattle.offer_model.specs.declared.products.ModelName.TheVariants.{Logit, Attract, Mixed, Chain}
 use Rattle.offer_model.specs.declared.node.Mark.{Mark}
-use Rattle.offer_model.specs.declared.node.Mark.TheVariants.{In, Out, Open}
+use Rattle.offer_model.specs.declared.node.Mark.TheVariants.{In, Out}
 use Rattle.offer_model.specs.Problems.{ProblemData, product_count}
 use Rattle.offer_model.specs.Nodes.{open_node}
 use Rattle.offer_model.specs.LeafBounds.{priced_limits}
@@ -16,57 +14,17 @@ use Rattle.offer_model.specs.Chains.{ChainData, place_count}
 use Rattle.offer_model.specs.Stopping.{StoppingData}
 use Rattle.proof_lines.specs.declared.line.Shape.{Shape}
 use Rattle.proof_lines.specs.declared.line.Shape.TheVariants as S
-use Rattle.proof_lines.specs.Lines.{LineData, line, most_number, spaced, digits_text, value_text, line_text, model_text, AreNumbers, IsValue, IsLine, AreLines}
-use Rattle.proof_lines.specs.Lines.IsValue.{whole, ratio, bounds}
+use Rattle.proof_lines.specs.Lines.{LineData, line, line_text, IsLine, AreLines}
 use Rattle.proof_lines.specs.Trees.{Tree, tree_lines, lines_of}
 use Rattle.proof_lines.specs.Trees.Tree.{leaf, branch}
 use Rattle.proof_lines.specs.Closing.{own_prices, PricesClose, SegmentsClose, ClosesUnder, Closes, TreeCloses}
 use Rattle.proof_lines.specs.Acceptance.{digit_of, digits_of, value_numbers, value_numbers_under, proof_of, IsAccepted, chain_lines, IsAcceptedChain}
 use Rattle.proof_lines.specs.Laws.{IsShort}
-
-number_short : (n : ℕ) → n ≤ most_number → length (decimal n) ≤ 33
-number_short n l = length-decimal-le_wide 33 n (omega arith) (omega arith) (omega arith)
-
-spaced_short : (ns : List ℕ) → AreNumbers ns → length (spaced ns) ≤ 34 * length ns
-spaced_short [] a = omega arith
-spaced_short (n ∷ ns) a =
-    let one = number_short n a.0 in
-    let rest = spaced_short ns a.1 in
-    omega (arith, length-append (decimal n) (spaced ns))
-
-digits_short : (ds : List ℕ) → length (digits_text ds) ≤ length ds + 1
-digits_short [] = omega arith
-digits_short (d ∷ ds) = let same = length-map (d ∷ ds) (λ k. 48 + k) in omega arith
-
-value_short : (ns : List ℕ) → IsValue ns → length (value_text ns) ≤ 67
-value_short ns (whole {a = a} h) = let one = number_short a h in omega arith
-value_short ns (ratio {a = a} {b = b} h k) = let one = number_short a h in let two = number_short b k in omega (arith, length-append (decimal a) (47 ∷ decimal b))
-value_short ns (bounds {a = a} {b = b} h k) = let one = number_short a h in let two = number_short b k in omega (arith, length-append (decimal a) (32 ∷ decimal b))
-
-model_short : (m : ModelName) → length (model_text m) ≤ 13
-model_short Logit = omega arith
-model_short Attract = omega arith
-model_short Mixed = omega arith
-model_short Chain = omega arith
-
-list_short : (c : ℕ) (ns : List ℕ) → AreNumbers ns → length ns ≤ 1024 → length (c ∷ spaced ns) < 40000
-list_short c ns a few = let all = spaced_short ns a in omega arith
+use Rattle.proof_lines.proofs.CallerLemmas.{length-line_text-le}
 
 -- A line of at most 1,024 numbers.
 line_short : (s : Shape) (ns : List ℕ) → IsLine s ns → length ns ≤ 1024 → length (line_text s ns) < 40000
-line_short S.Start ns h few = omega arith
-line_short (S.Model m) ns h few = let all = model_short m in omega arith
-line_short S.Set ns h few = let all = digits_short ns in omega arith
-line_short S.Value ns h few = let all = value_short ns h in omega arith
-line_short S.Branch ns h few = list_short 98 ns h.1 few
-line_short S.Clash ns h few = omega arith
-line_short S.Multipliers ns h few = list_short 109 ns h few
-line_short S.Shelf ns h few = omega arith
-line_short S.Potentials ns h few = list_short 112 ns h few
-line_short S.Segments ns h few = list_short 115 ns h few
-line_short S.Upper ns h few = list_short 117 ns h few
-line_short S.Lower ns h few = list_short 104 ns h few
-line_short S.End ns h few = omega arith
+line_short s ns h few = let all = length-line_text-le s ns h in omega arith
 
 -- ---- The numbers of leaves.
 
@@ -98,21 +56,29 @@ leaf_few p x node shape us h k = model_few p.model p x node shape us h k
 tree_short : (p : ProblemData) (x : List Bool) (node : List Mark) (tree : Tree) (rest : List LineData) → IsSmall p → TreeCloses p x node tree → AreLines (tree_lines tree rest)
     → (AreLines rest → AllByRecursion IsShort rest) → AllByRecursion IsShort (tree_lines tree rest)
 tree_short p x node (leaf shape us) rest h k a r = (line_short shape us a.0 (leaf_few p x node shape us h k), r a.1)
-tree_short p x node (branch i inside outside) rest h k a r =
-    (line_short S.Branch (i ∷ []) a.0 (omega arith),
-      tree_short p x (slice_set node i In) inside (tree_lines outside rest) h k.1 a.1 (λ b. tree_short p x (slice_set node i Out) outside rest h k.2 b r))
+tree_short p x node (branch i inside outside) rest h k a r = (
+  line_short S.Branch (i ∷ []) a.0 (omega arith),
+  tree_short p x (slice_set node i In) inside (tree_lines outside rest) h k.1 a.1 (λ b. tree_short p x (slice_set node i Out) outside rest h k.2 b r),
+)
 
 pub accepted_lines_are_short : (p : ProblemData) (text : List ℕ) (x : List Bool) (tree : Tree) → product_count p ≤ 512 → length (priced_limits p) ≤ 1024 → length p.segments ≤ 1024
     → IsAccepted p text x tree → AllByRecursion IsShort (lines_of (proof_of p x tree))
 accepted_lines_are_short p text x tree few limits segments k =
     let a = k.proof.lines in
     let word = length-map x digit_of in
-    let each = k.feasible.0 in
-    (line_short S.Start [] a.0 (omega arith),
-      (line_short (S.Model p.model) [] a.1.0 (omega arith),
-        (line_short S.Set (digits_of x) a.1.1.0 (omega arith),
-          (line_short S.Value (value_numbers p x) a.1.1.1.0 (value_few p.model),
-            tree_short p x (open_node (product_count p)) tree (line S.End [] ∷ []) (record { products = few; limits = limits; segments = segments }) k.closed a.1.1.1.1 (λ b. (line_short S.End [] b.0 (omega arith), tt))))))
+    let each = k.feasible.0 in (
+      line_short S.Start [] a.0 (omega arith),
+      (
+        line_short (S.Model p.model) [] a.1.0 (omega arith),
+        (
+          line_short S.Set (digits_of x) a.1.1.0 (omega arith),
+          (
+            line_short S.Value (value_numbers p x) a.1.1.1.0 (value_few p.model),
+            tree_short p x (open_node (product_count p)) tree (line S.End [] ∷ []) (record { products = few; limits = limits; segments = segments }) k.closed a.1.1.1.1 (λ b. (line_short S.End [] b.0 (omega arith), tt)),
+          ),
+        ),
+      ),
+    )
   where
     value_few : (m : ModelName) → length (value_numbers_under m p x) ≤ 1024
     value_few Logit = omega arith
@@ -126,11 +92,22 @@ accepted_chain_lines_are_short c text s few k =
     let word = length-map s.set digit_of in
     let each = k.brackets.each in
     let upper = k.brackets.above.each in
-    let lower = k.brackets.below.each in
-    (line_short S.Start [] a.0 (omega arith),
-      (line_short (S.Model Chain) [] a.1.0 (omega arith),
-        (line_short S.Set (digits_of s.set) a.1.1.0 (omega arith),
-          (line_short S.Value (2 ∷ s.lo ∷ s.up ∷ []) a.1.1.1.0 (omega arith),
-            (line_short S.Upper s.upper a.1.1.1.1.0 (omega arith),
-              (line_short S.Lower s.lower a.1.1.1.1.1.0 (omega arith),
-                (line_short S.End [] a.1.1.1.1.1.1.0 (omega arith), tt)))))))
+    let lower = k.brackets.below.each in (
+      line_short S.Start [] a.0 (omega arith),
+      (
+        line_short (S.Model Chain) [] a.1.0 (omega arith),
+        (
+          line_short S.Set (digits_of s.set) a.1.1.0 (omega arith),
+          (
+            line_short S.Value (2 ∷ s.lo ∷ s.up ∷ []) a.1.1.1.0 (omega arith),
+            (
+              line_short S.Upper s.upper a.1.1.1.1.0 (omega arith),
+              (
+                line_short S.Lower s.lower a.1.1.1.1.1.0 (omega arith),
+                (line_short S.End [] a.1.1.1.1.1.1.0 (omega arith), tt),
+              ),
+            ),
+          ),
+        ),
+      ),
+    )

@@ -1,10 +1,10 @@
 -- Numbers with a space before each.
-use Rattle.std.proofs.Common.{◌≡◌, ℕ, suc, zero, Bool, true, false, List, [], ◌∷◌, ◌++◌, length, take, drop, get_or, refl, sym, ◌∙◌, ap, arith, ◌<◌, ◌≤◌, ◌+◌, ◌^◌, append_assoc, length-append, Some}
+use Rattle.std.proofs.Common.{◌≡◌, ℕ, suc, zero, List, [], ◌∷◌, ◌++◌, length, drop, refl, sym, ◌∙◌, ap, arith, ◌<◌, ◌+◌, append_assoc, length-append, Some}
 use Rattle.std.specs.Prelude.{slice_get}
 use Rattle.std.proofs.lemmas.List.{drop_more}
 use Rattle.std.proofs.lemmas.Option.{get_or_from_slice_get}
 use Rattle.std.specs.Fmt.{decimal}
-use Rattle.proof_lines.specs.Lines.{most_number, spaced, AreNumbers}
+use Rattle.proof_lines.specs.Lines.{spaced, AreNumbers}
 use Rattle.proof_lines.specs.Reading.{IsPastDigits}
 use Rattle.proof_lines.proofs.NumberLemmas.{decimal_split}
 

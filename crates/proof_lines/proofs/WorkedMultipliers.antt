@@ -1,41 +1,29 @@
 -- Worked certificates with multipliers, by computation.
-use Rattle.std.proofs.Common.{◌≡◌, ◌≢◌, ℕ, suc, zero, Bool, true, false, List, [], ◌∷◌, ◌++◌, length, refl, sym, ◌∙◌, inl, inr, ◌⊎◌, ⊎_elim, arith, lit≤, lit<, ◌<◌, ◌≤◌, ◌+◌, ◌^◌, ◌*◌, subst, ap, IsTrue}
-use Rattle.std.specs.Prelude.{All, Any, pos, negsuc, ◌<ℤ◌, ◌≤ℤ◌, ◌+ℤ◌, slice_index, slice_index_or, codes}
+use Rattle.std.proofs.Common.{◌≡◌, ℕ, true, false, List, [], ◌∷◌, ◌++◌, refl, sym, ◌∙◌, inl, inr, ⊎_elim, arith, lit≤, lit<, ◌≤◌, ◌^◌, subst, ap}
+use Rattle.std.specs.Prelude.{pos, slice_index, codes}
 use Rattle.std.specs.Fmt.{digits, decimal}
 use Rattle.std.proofs.lemmas.Fmt.{decimal_is_IsNumeral_wide}
 use Rattle.std.specs.Str.Parse.{AllDigits}
-use Rattle.std.proofs.lemmas.Int.{ints}
-use lib.IntN.{ℤ}
 use Rattle.proof_lines.specs.declared.line.Shape.{Shape}
 use Rattle.proof_lines.specs.declared.line.Shape.TheVariants as S
-use Rattle.offer_model.specs.declared.node.Mark.{Mark}
-use Rattle.offer_model.specs.declared.node.Mark.TheVariants.{In, Out, Open}
-use Rattle.offer_model.specs.declared.products.ModelName.TheVariants.{Logit, Mixed}
-use Rattle.offer_model.specs.declared.products.Limit.{Limit}
-use Rattle.offer_model.specs.declared.products.Limit.TheVariants.{Total, Requires, Shelf, Ladder}
-use Rattle.offer_model.specs.Assortments.{offers}
-use Rattle.offer_model.specs.Problems.{ProblemData, product_count, product_at, segment_at}
-use Rattle.offer_model.specs.Limits.{MayStand, Meets, KeepsLadder, IsFeasible}
-use Rattle.offer_model.specs.Nodes.{open_node, fill_of, settled_mark, Clashes, ClashesAt}
-use Rattle.offer_model.specs.Prices.{Prices, greatest_worth, prices_above}
-use Rattle.offer_model.specs.LeafBounds.{MultipliersFit, IsMultiplier, priced_limit_at, SegmentsFit, is_limited, ladder_of, IsUsable, Rises, PotentialsFit}
-use Rattle.proof_lines.specs.Lines.{LineData, line, line_text, IsLine, IsLineText, AreLines, AreNumbers, spaced, text_of}
-use Rattle.proof_lines.specs.Lines.IsValue.{whole, ratio, bounds}
+use Rattle.offer_model.specs.declared.products.ModelName.TheVariants.{Logit}
+use Rattle.offer_model.specs.declared.products.Limit.TheVariants.{Total, Requires}
+use Rattle.offer_model.specs.Limits.{Meets, IsFeasible}
+use Rattle.offer_model.specs.Nodes.{open_node}
+use Rattle.offer_model.specs.LeafBounds.{MultipliersFit, IsMultiplier, priced_limit_at}
+use Rattle.proof_lines.specs.Lines.{line, line_text, IsLine, IsLineText, AreLines, AreNumbers, spaced, text_of}
+use Rattle.proof_lines.specs.Lines.IsValue.{ratio}
 use Rattle.proof_lines.specs.Reading.{shape_by_head}
 use Rattle.proof_lines.specs.Trees.{Tree, IsProof, lines_of}
 use Rattle.proof_lines.specs.Trees.Tree.{leaf, branch}
-use Rattle.proof_lines.specs.Closing.{TreeCloses, own_prices}
-use Rattle.proof_lines.specs.Acceptance.{proof_of, IsAccepted, Accepts, chain_lines, Brackets, IsAcceptedChain, AcceptsChain}
-use Rattle.proof_lines.specs.WorkedProofs.{joined, free_pair, free_header, FreePair, FreePairBroken, capped_pair, capped_text, CappedPair, required_chain, required_text, RequiredChain, mixed_pair, MixedPair, shelf_of_three, ShelfOfThree, ladder_of_three, ladder_text, LadderOfThree, walk_of_three, walk_text, WalkOfThree, WorkedProofs}
+use Rattle.proof_lines.specs.Closing.{TreeCloses}
+use Rattle.proof_lines.specs.Acceptance.{proof_of, Accepts}
+use Rattle.proof_lines.specs.WorkedProofs.{joined, free_pair, free_header, FreePair, FreePairBroken, capped_pair, capped_text, CappedPair, required_chain, required_text, RequiredChain}
 use Rattle.proof_lines.proofs.NumberLemmas.{digits_split, leading_zero}
 use Rattle.proof_lines.proofs.SpacedLemmas.{spaced_past}
 use Rattle.proof_lines.proofs.LinesDiffer.{shape_is}
-use Rattle.offer_model.specs.Chains.{ChainData, moved}
-use Rattle.offer_model.specs.Stopping.{StoppingData, own_value, value_bound}
-use Rattle.offer_model.specs.Brackets.{BoundsAbove, BoundsBelow}
-use Rattle.proof_lines.proofs.ProofsDiffer.{chain_proofs_differ}
 use Rattle.proof_lines.proofs.RejectionLemmas.{tree_rejects, count_rejects, piece_rejects}
-use Rattle.proof_lines.proofs.WorkedLists.{at_one, at_two, at_three, All-one, All-two, Any-one}
+use Rattle.proof_lines.proofs.WorkedLists.{at_one, at_two, All-one, All-two}
 
 -- ---- Two products without limits.
 
@@ -108,8 +96,19 @@ abbrev capped_tree : ℕ → Tree
 capped_tree u = branch 0 (leaf S.Multipliers (u ∷ [])) (branch 1 (leaf S.Multipliers (0 ∷ [])) (leaf S.Multipliers (0 ∷ [])))
 
 capped_lines : (u : ℕ) → u ≤ 2 ^ 108 → AreLines (lines_of (proof_of capped_pair (false ∷ true ∷ []) (capped_tree u)))
-capped_lines u h = (refl, (refl, ((lit≤ tt, (lit< tt, (lit< tt, tt))), (ratio (lit≤ tt) (lit≤ tt),
-  ((refl, (lit≤ tt, tt)), ((h, tt), ((refl, (lit≤ tt, tt)), ((lit≤ tt, tt), ((lit≤ tt, tt), (refl, tt))))))))))
+capped_lines u h = (
+  refl,
+  (
+    refl,
+    (
+      (lit≤ tt, (lit< tt, (lit< tt, tt))),
+      (
+        ratio (lit≤ tt) (lit≤ tt),
+        ((refl, (lit≤ tt, tt)), ((h, tt), ((refl, (lit≤ tt, tt)), ((lit≤ tt, tt), ((lit≤ tt, tt), (refl, tt)))))),
+      ),
+    ),
+  ),
+)
 
 capped_40 : IsProof (proof_of capped_pair (false ∷ true ∷ []) (capped_tree 40)) (capped_text (codes "m 40"))
 unfolding digits
@@ -126,26 +125,42 @@ capped_feasible : IsFeasible capped_pair (false ∷ true ∷ [])
 capped_feasible = (refl, All-one (Meets capped_pair (false ∷ true ∷ [])) (Total 1) (lit≤ tt))
 
 capped_closes : TreeCloses capped_pair (false ∷ true ∷ []) (open_node 2) (capped_tree 40)
-capped_closes = (refl, (capped_fit 40 (lit≤ tt), inr (refl, λ h. h)),
-  (refl, (capped_fit 0 (lit≤ tt), inr (refl, λ h. h)), (capped_fit 0 (lit≤ tt), inl (record { lt = tt }))))
+capped_closes = (
+  refl,
+  (capped_fit 40 (lit≤ tt), inr (refl, λ h. h)),
+  (refl, (capped_fit 0 (lit≤ tt), inr (refl, λ h. h)), (capped_fit 0 (lit≤ tt), inl (record { lt = tt }))),
+)
 
 capped_open : TreeCloses capped_pair (false ∷ true ∷ []) (open_node 2) (capped_tree 39) → ⊥
 capped_open k = ⊎_elim (λ a. absurd a.lt) (λ b. let e : pos 1 ≡ pos 0 = b.0 in cc) k.1.1
 
 pub capped_worked : CappedPair
-capped_worked = ((false ∷ true ∷ [], capped_tree 40, record { proof = capped_40; feasible = capped_feasible; closed = capped_closes }),
-  tree_rejects capped_pair (capped_text (codes "m 39")) (false ∷ true ∷ []) (capped_tree 39) capped_39 capped_open)
+capped_worked = (
+  (false ∷ true ∷ [], capped_tree 40, record { proof = capped_40; feasible = capped_feasible; closed = capped_closes }),
+  tree_rejects capped_pair (capped_text (codes "m 39")) (false ∷ true ∷ []) (capped_tree 39) capped_39 capped_open,
+)
 
 -- ---- A chain of requirements.
 
 abbrev required_tree : ℕ → Tree
 required_tree u = branch 0
-  (branch 2 (branch 1 (leaf S.Multipliers (0 ∷ 0 ∷ [])) (leaf S.Clash [])) (leaf S.Multipliers (u ∷ u ∷ [])))
-  (leaf S.Multipliers (0 ∷ 0 ∷ []))
+    (branch 2 (branch 1 (leaf S.Multipliers (0 ∷ 0 ∷ [])) (leaf S.Clash [])) (leaf S.Multipliers (u ∷ u ∷ [])))
+    (leaf S.Multipliers (0 ∷ 0 ∷ []))
 
 required_lines : (u : ℕ) → u ≤ 2 ^ 108 → AreLines (lines_of (proof_of required_chain (true ∷ true ∷ true ∷ []) (required_tree u)))
-required_lines u h = (refl, (refl, ((lit≤ tt, (lit< tt, (lit< tt, (lit< tt, tt)))), (ratio (lit≤ tt) (lit≤ tt),
-  ((refl, (lit≤ tt, tt)), ((refl, (lit≤ tt, tt)), ((refl, (lit≤ tt, tt)), ((lit≤ tt, (lit≤ tt, tt)), (refl, ((h, (h, tt)), ((lit≤ tt, (lit≤ tt, tt)), (refl, tt))))))))))))
+required_lines u h = (
+  refl,
+  (
+    refl,
+    (
+      (lit≤ tt, (lit< tt, (lit< tt, (lit< tt, tt)))),
+      (
+        ratio (lit≤ tt) (lit≤ tt),
+        ((refl, (lit≤ tt, tt)), ((refl, (lit≤ tt, tt)), ((refl, (lit≤ tt, tt)), ((lit≤ tt, (lit≤ tt, tt)), (refl, ((h, (h, tt)), ((lit≤ tt, (lit≤ tt, tt)), (refl, tt)))))))),
+      ),
+    ),
+  ),
+)
 
 required_21 : IsProof (proof_of required_chain (true ∷ true ∷ true ∷ []) (required_tree 21)) (required_text (codes "m 21 21"))
 unfolding digits
@@ -162,13 +177,17 @@ required_feasible : IsFeasible required_chain (true ∷ true ∷ true ∷ [])
 required_feasible = (refl, All-two (Meets required_chain (true ∷ true ∷ true ∷ [])) (Requires 0 1) (Requires 1 2) (λ h. refl) (λ h. refl))
 
 required_closes : TreeCloses required_chain (true ∷ true ∷ true ∷ []) (open_node 3) (required_tree 21)
-required_closes = (refl,
+required_closes = (
+  refl,
   (refl, (refl, (required_fit 0 0, inr (refl, λ h. h)), (refl, (0, Requires 0 1, lit< tt, refl, (refl, refl)))), (required_fit 21 21, inl (record { lt = tt }))),
-  (required_fit 0 0, inl (record { lt = tt })))
+  (required_fit 0 0, inl (record { lt = tt })),
+)
 
 required_open : TreeCloses required_chain (true ∷ true ∷ true ∷ []) (open_node 3) (required_tree 20) → ⊥
 required_open k = ⊎_elim (λ a. absurd a.lt) (λ b. b.1 tt) k.1.2.1
 
 pub required_worked : RequiredChain
-required_worked = ((true ∷ true ∷ true ∷ [], required_tree 21, record { proof = required_21; feasible = required_feasible; closed = required_closes }),
-  tree_rejects required_chain (required_text (codes "m 20 20")) (true ∷ true ∷ true ∷ []) (required_tree 20) required_20 required_open)
+required_worked = (
+  (true ∷ true ∷ true ∷ [], required_tree 21, record { proof = required_21; feasible = required_feasible; closed = required_closes }),
+  tree_rejects required_chain (required_text (codes "m 20 20")) (true ∷ true ∷ true ∷ []) (required_tree 20) required_20 required_open,
+)

@@ -1,41 +1,32 @@
 -- Worked certificates with the other leaves, by computation, and all of them together.
-use Rattle.std.proofs.Common.{◌≡◌, ◌≢◌, ℕ, suc, zero, Bool, true, false, List, [], ◌∷◌, ◌++◌, length, refl, sym, ◌∙◌, inl, inr, ◌⊎◌, ⊎_elim, arith, lit≤, lit<, ◌<◌, ◌≤◌, ◌+◌, ◌^◌, ◌*◌, subst, ap, IsTrue}
-use Rattle.std.specs.Prelude.{All, Any, pos, negsuc, ◌<ℤ◌, ◌≤ℤ◌, ◌+ℤ◌, slice_index, slice_index_or, codes}
-use Rattle.std.specs.Fmt.{digits, decimal}
-use Rattle.std.proofs.lemmas.Fmt.{decimal_is_IsNumeral_wide}
-use Rattle.std.specs.Str.Parse.{AllDigits}
+use Rattle.std.proofs.Common.{◌≡◌, ℕ, suc, zero, Bool, true, false, List, [], ◌∷◌, refl, sym, ◌∙◌, inl, inr, arith, lit≤, lit<, ◌≤◌, ◌^◌, ◌*◌, subst, IsTrue}
+use Rattle.std.specs.Prelude.{pos, ◌<ℤ◌, ◌≤ℤ◌, ◌+ℤ◌, slice_index, codes}
+use Rattle.std.specs.Fmt.{digits}
 use Rattle.std.proofs.lemmas.Int.{ints}
 use lib.IntN.{ℤ}
-use Rattle.proof_lines.specs.declared.line.Shape.{Shape}
 use Rattle.proof_lines.specs.declared.line.Shape.TheVariants as S
 use Rattle.offer_model.specs.declared.node.Mark.{Mark}
 use Rattle.offer_model.specs.declared.node.Mark.TheVariants.{In, Out, Open}
-use Rattle.offer_model.specs.declared.products.ModelName.TheVariants.{Logit, Mixed}
-use Rattle.offer_model.specs.declared.products.Limit.{Limit}
-use Rattle.offer_model.specs.declared.products.Limit.TheVariants.{Total, Requires, Shelf, Ladder}
+use Rattle.offer_model.specs.declared.products.Limit.TheVariants.{Shelf, Ladder}
 use Rattle.offer_model.specs.Assortments.{offers}
-use Rattle.offer_model.specs.Problems.{ProblemData, product_count, product_at, segment_at}
-use Rattle.offer_model.specs.Limits.{MayStand, Meets, KeepsLadder, IsFeasible}
+use Rattle.offer_model.specs.Problems.{product_at, segment_at}
+use Rattle.offer_model.specs.Limits.{MayStand, Meets, KeepsLadder}
 use Rattle.offer_model.specs.Nodes.{open_node, fill_of, settled_mark, Clashes, ClashesAt}
-use Rattle.offer_model.specs.Prices.{Prices, greatest_worth, prices_above}
-use Rattle.offer_model.specs.LeafBounds.{MultipliersFit, IsMultiplier, priced_limit_at, SegmentsFit, is_limited, ladder_of, IsUsable, Rises, PotentialsFit}
-use Rattle.proof_lines.specs.Lines.{LineData, line, line_text, IsLine, IsLineText, AreLines, AreNumbers, spaced, text_of}
+use Rattle.offer_model.specs.Prices.{greatest_worth, prices_above}
+use Rattle.offer_model.specs.LeafBounds.{SegmentsFit, is_limited, ladder_of, IsUsable, Rises, PotentialsFit}
+use Rattle.proof_lines.specs.Lines.{AreLines, text_of}
 use Rattle.proof_lines.specs.Lines.IsValue.{whole, ratio, bounds}
-use Rattle.proof_lines.specs.Reading.{shape_by_head}
 use Rattle.proof_lines.specs.Trees.{Tree, IsProof, lines_of}
 use Rattle.proof_lines.specs.Trees.Tree.{leaf, branch}
 use Rattle.proof_lines.specs.Closing.{TreeCloses, own_prices}
-use Rattle.proof_lines.specs.Acceptance.{proof_of, IsAccepted, Accepts, chain_lines, Brackets, IsAcceptedChain, AcceptsChain}
-use Rattle.proof_lines.specs.WorkedProofs.{joined, free_pair, free_header, FreePair, FreePairBroken, capped_pair, capped_text, CappedPair, required_chain, required_text, RequiredChain, mixed_pair, MixedPair, shelf_of_three, ShelfOfThree, ladder_of_three, ladder_text, LadderOfThree, walk_of_three, walk_text, WalkOfThree, WorkedProofs}
-use Rattle.proof_lines.proofs.NumberLemmas.{digits_split, leading_zero}
-use Rattle.proof_lines.proofs.SpacedLemmas.{spaced_past}
-use Rattle.proof_lines.proofs.LinesDiffer.{shape_is}
-use Rattle.offer_model.specs.Chains.{ChainData, moved}
+use Rattle.proof_lines.specs.Acceptance.{proof_of, chain_lines, Brackets, AcceptsChain}
+use Rattle.proof_lines.specs.WorkedProofs.{joined, mixed_pair, MixedPair, shelf_of_three, ShelfOfThree, ladder_of_three, ladder_text, LadderOfThree, walk_of_three, walk_text, WalkOfThree, WorkedProofs}
+use Rattle.offer_model.specs.Chains.{moved}
 use Rattle.offer_model.specs.Stopping.{StoppingData, own_value, value_bound}
 use Rattle.offer_model.specs.Brackets.{BoundsAbove, BoundsBelow}
 use Rattle.proof_lines.proofs.ProofsDiffer.{chain_proofs_differ}
-use Rattle.proof_lines.proofs.RejectionLemmas.{tree_rejects, count_rejects, piece_rejects}
-use Rattle.proof_lines.proofs.WorkedLists.{at_one, at_two, at_three, All-one, All-two, Any-one}
+use Rattle.proof_lines.proofs.RejectionLemmas.{tree_rejects}
+use Rattle.proof_lines.proofs.WorkedLists.{at_one, at_three, All-one, Any-one}
 use Rattle.proof_lines.proofs.WorkedMultipliers.{free_accepted, free_broken, capped_worked, required_worked}
 
 -- ---- Mixed logit.
@@ -44,7 +35,7 @@ abbrev mixed_tree : Tree
 mixed_tree = branch 0 (leaf S.Segments (5 ∷ [])) (leaf S.Segments (3 ∷ []))
 
 mixed_proof : IsProof (proof_of mixed_pair (true ∷ false ∷ []) mixed_tree) (joined (codes "assort-proof 1" ∷ codes "model mixed" ∷ codes "set 10" ∷ codes "value 5"
-  ∷ codes "b 0" ∷ codes "s 5" ∷ codes "s 3" ∷ codes "end" ∷ []))
+    ∷ codes "b 0" ∷ codes "s 5" ∷ codes "s 3" ∷ codes "end" ∷ []))
 unfolding digits
 mixed_proof = record {
   lines = (refl, (refl, ((lit≤ tt, (lit< tt, (lit< tt, tt))), (whole (lit≤ tt), ((refl, (lit≤ tt, tt)), ((lit≤ tt, tt), ((lit≤ tt, tt), (refl, tt))))))));
@@ -60,9 +51,11 @@ mixed_fit node u small below = record {
 }
 
 mixed_closes : TreeCloses mixed_pair (true ∷ false ∷ []) (open_node 2) mixed_tree
-mixed_closes = (refl,
+mixed_closes = (
+  refl,
   (mixed_fit (In ∷ Open ∷ []) 5 (lit≤ tt) (record { lt = tt }), inr (refl, λ h. h)),
-  (mixed_fit (Out ∷ Open ∷ []) 3 (lit≤ tt) (record { lt = tt }), inl (lit< tt)))
+  (mixed_fit (Out ∷ Open ∷ []) 3 (lit≤ tt) (record { lt = tt }), inl (lit< tt)),
+)
 
 pub mixed_worked : MixedPair
 mixed_worked = (true ∷ false ∷ [], mixed_tree, record { proof = mixed_proof; feasible = (refl, λ k d l. absurd (omega arith)); closed = mixed_closes })
@@ -73,7 +66,7 @@ abbrev shelf_tree : Tree
 shelf_tree = branch 0 (leaf S.Shelf []) (branch 1 (branch 2 (leaf S.Shelf []) (leaf S.Shelf [])) (leaf S.Shelf []))
 
 shelf_proof : IsProof (proof_of shelf_of_three (false ∷ true ∷ true ∷ []) shelf_tree) (joined (codes "assort-proof 1" ∷ codes "model logit" ∷ codes "set 011" ∷ codes "value 32/8"
-  ∷ codes "b 0" ∷ codes "t" ∷ codes "b 1" ∷ codes "b 2" ∷ codes "t" ∷ codes "t" ∷ codes "t" ∷ codes "end" ∷ []))
+    ∷ codes "b 0" ∷ codes "t" ∷ codes "b 1" ∷ codes "b 2" ∷ codes "t" ∷ codes "t" ∷ codes "t" ∷ codes "end" ∷ []))
 unfolding digits
 shelf_proof = record {
   lines = (refl, (refl, ((lit≤ tt, (lit< tt, (lit< tt, (lit< tt, tt)))), (ratio (lit≤ tt) (lit≤ tt), ((refl, (lit≤ tt, tt)), (refl, ((refl, (lit≤ tt, tt)), ((refl, (lit≤ tt, tt)), (refl, (refl, (refl, (refl, tt))))))))))));
@@ -85,18 +78,26 @@ shelf_clear : (node : List Mark) → Meets shelf_of_three (fill_of node) (Shelf 
 shelf_clear node fits k = Any-one (ClashesAt shelf_of_three node) (Shelf 4) k fits
 
 shelf_closes : TreeCloses shelf_of_three (false ∷ true ∷ true ∷ []) (open_node 3) shelf_tree
-shelf_closes = (refl,
+shelf_closes = (
+  refl,
   (refl, shelf_clear (In ∷ Open ∷ Open ∷ []) (lit≤ tt), inl (record { lt = tt })),
-  (refl,
+  (
+    refl,
     (refl, (refl, shelf_clear (Out ∷ In ∷ In ∷ []) (lit≤ tt), inr (refl, λ h. h)), (refl, shelf_clear (Out ∷ In ∷ Out ∷ []) (lit≤ tt), inl (record { lt = tt }))),
-    (refl, shelf_clear (Out ∷ Out ∷ Open ∷ []) (lit≤ tt), inl (record { lt = tt }))))
+    (refl, shelf_clear (Out ∷ Out ∷ Open ∷ []) (lit≤ tt), inl (record { lt = tt })),
+  ),
+)
 
 pub shelf_worked : ShelfOfThree
-shelf_worked = (false ∷ true ∷ true ∷ [], shelf_tree, record {
-  proof = shelf_proof;
-  feasible = (refl, All-one (Meets shelf_of_three (false ∷ true ∷ true ∷ [])) (Shelf 4) (lit≤ tt));
-  closed = shelf_closes;
-})
+shelf_worked = (
+  false ∷ true ∷ true ∷ [],
+  shelf_tree,
+  record {
+    proof = shelf_proof;
+    feasible = (refl, All-one (Meets shelf_of_three (false ∷ true ∷ true ∷ [])) (Shelf 4) (lit≤ tt));
+    closed = shelf_closes;
+  },
+)
 
 -- ---- A price ladder.
 
@@ -107,8 +108,19 @@ abbrev ladder_set : List Bool
 ladder_set = false ∷ true ∷ false ∷ []
 
 ladder_lines : (u : ℕ) → u ≤ 2 ^ 108 → AreLines (lines_of (proof_of ladder_of_three ladder_set (ladder_tree u)))
-ladder_lines u h = (refl, (refl, ((lit≤ tt, (lit< tt, (lit< tt, (lit< tt, tt)))), (ratio (lit≤ tt) (lit≤ tt),
-  ((refl, (lit≤ tt, tt)), ((lit≤ tt, (lit≤ tt, (h, tt))), ((refl, (lit≤ tt, tt)), ((lit≤ tt, (lit≤ tt, (lit≤ tt, tt))), ((lit≤ tt, (lit≤ tt, (lit≤ tt, tt))), (refl, tt))))))))))
+ladder_lines u h = (
+  refl,
+  (
+    refl,
+    (
+      (lit≤ tt, (lit< tt, (lit< tt, (lit< tt, tt)))),
+      (
+        ratio (lit≤ tt) (lit≤ tt),
+        ((refl, (lit≤ tt, tt)), ((lit≤ tt, (lit≤ tt, (h, tt))), ((refl, (lit≤ tt, tt)), ((lit≤ tt, (lit≤ tt, (lit≤ tt, tt))), ((lit≤ tt, (lit≤ tt, (lit≤ tt, tt))), (refl, tt)))))),
+      ),
+    ),
+  ),
+)
 
 ladder_4 : IsProof (proof_of ladder_of_three ladder_set (ladder_tree 4)) (ladder_text (codes "p 0 0 4"))
 unfolding digits
@@ -171,9 +183,9 @@ third_alone node u zero_out one_out unused alone = record {
   unused = at_three (λ i. (IsUsable ladder_of_three node i → ⊥) → slice_index (0 ∷ 0 ∷ u ∷ []) i ≡ 0) (λ h. refl) (λ h. refl) unused;
   alone = at_three (UsedBy node (0 ∷ 0 ∷ u ∷ [])) (λ h. absurd (zero_out h)) (λ h. absurd (one_out h)) alone;
   chained = λ i j li lj. at_three (λ i. ChainedBy node (0 ∷ 0 ∷ u ∷ []) i j)
-    (λ h k. absurd (zero_out h))
-    (λ h k. absurd (one_out h))
-    (at_three (ChainedBy node (0 ∷ 0 ∷ u ∷ []) 2) (λ h k. absurd (zero_out k)) (λ h k. absurd (one_out k)) (λ h k s r. let up = r.0 in absurd (omega arith)) j lj) i li;
+      (λ h k. absurd (zero_out h))
+      (λ h k. absurd (one_out h))
+      (at_three (ChainedBy node (0 ∷ 0 ∷ u ∷ []) 2) (λ h k. absurd (zero_out k)) (λ h k. absurd (one_out k)) (λ h k s r. let up = r.0 in absurd (omega arith)) j lj) i li;
 }
 
 -- With the first product In the third is usable: its grade and its price are higher.
@@ -213,21 +225,32 @@ ladder_third_fit = third_alone (Out ∷ Out ∷ Open ∷ []) 4 (λ h. out_open h
     out_in e = cc
 
 ladder_closes : TreeCloses ladder_of_three ladder_set (open_node 3) (ladder_tree 4)
-ladder_closes = (refl,
+ladder_closes = (
+  refl,
   (ladder_clear (In ∷ Open ∷ Open ∷ []) (lone (true ∷ false ∷ false ∷ []) 0 first_alone), ladder_first_fit, inl (record { lt = tt })),
-  (refl,
+  (
+    refl,
     (ladder_clear (Out ∷ In ∷ Open ∷ []) (lone ladder_set 1 second_alone), ladder_second_fit, inr (refl, λ h. h)),
-    (ladder_clear (Out ∷ Out ∷ Open ∷ []) (lone (false ∷ false ∷ false ∷ []) 0 none_at_all), ladder_third_fit, inl (record { lt = tt }))))
+    (ladder_clear (Out ∷ Out ∷ Open ∷ []) (lone (false ∷ false ∷ false ∷ []) 0 none_at_all), ladder_third_fit, inl (record { lt = tt })),
+  ),
+)
 
 ladder_open : TreeCloses ladder_of_three ladder_set (open_node 3) (ladder_tree 3) → ⊥
 ladder_open k = let low : pos 4 ≤ℤ pos 3 = k.1.1.alone 2 (lit< tt) third_usable in absurd (omega (arith, ints))
 
 pub ladder_worked : LadderOfThree
-ladder_worked = ((ladder_set, ladder_tree 4, record {
-  proof = ladder_4;
-  feasible = (refl, All-one (Meets ladder_of_three ladder_set) (Ladder 1) (lone ladder_set 1 second_alone));
-  closed = ladder_closes;
-}), tree_rejects ladder_of_three (ladder_text (codes "p 0 0 3")) ladder_set (ladder_tree 3) ladder_3 ladder_open)
+ladder_worked = (
+  (
+    ladder_set,
+    ladder_tree 4,
+    record {
+      proof = ladder_4;
+      feasible = (refl, All-one (Meets ladder_of_three ladder_set) (Ladder 1) (lone ladder_set 1 second_alone));
+      closed = ladder_closes;
+    },
+  ),
+  tree_rejects ladder_of_three (ladder_text (codes "p 0 0 3")) ladder_set (ladder_tree 3) ladder_3 ladder_open,
+)
 
 -- ---- A chain.
 

@@ -1,20 +1,18 @@
 -- What the forms of written certificates fix.
-use Rattle.std.proofs.Common.{◌≡◌, ◌≢◌, ℕ, suc, zero, Bool, true, false, cond, ◌||◌, List, [], ◌∷◌, length, replicate, Option, Some, None, refl, sym, ◌∙◌, ap, subst, arith, inl, inr, ◌⊎◌, ⊎_elim, ltb, eqb, ◌<◌, ◌≤◌, ◌+◌, ◌/◌}
+use Rattle.std.proofs.Common.{◌≡◌, ℕ, suc, zero, Bool, true, false, cond, ◌||◌, List, [], ◌∷◌, length, Option, Some, None, refl, sym, ◌∙◌, ap, subst, arith, inl, inr, ◌⊎◌, ⊎_elim, eqb, ◌<◌, ◌≤◌, ◌+◌, ◌/◌}
 use Rattle.std.specs.Prelude.{slice_index, slice_set, nat_lt}
 use Rattle.std.specs.Bool.{MatchBool}
 use Rattle.std.proofs.lemmas.Bool.{cases_lt, cases_eq}
 use Rattle.offer_model.specs.declared.node.Mark.{Mark}
-use Rattle.offer_model.specs.declared.node.Mark.TheVariants.{In, Out, Open}
+use Rattle.offer_model.specs.declared.node.Mark.TheVariants.{In, Out}
 use Rattle.offer_model.specs.declared.products.ModelName.{ModelName}
 use Rattle.offer_model.specs.declared.products.ModelName.TheVariants.{Logit, Attract, Mixed, Chain}
 use Rattle.offer_model.specs.Assortments.{offers}
-use Rattle.offer_model.specs.Problems.{SegmentData, ProblemData, product_count, margin_of, segment_at}
-use Rattle.offer_model.specs.Revenue.{segment_value}
+use Rattle.offer_model.specs.Problems.{SegmentData, ProblemData, product_count, segment_at}
 use Rattle.offer_model.specs.Best.{IsBest}
-use Rattle.offer_model.specs.Nodes.{mark_at, open_node, Clashes}
-use Rattle.offer_model.specs.LeafBounds.{priced_limits}
+use Rattle.offer_model.specs.Nodes.{open_node, Clashes}
 use Rattle.offer_model.specs.Branching.{GoesFirst, IsFirstOpen, IsDearestOpen}
-use Rattle.offer_model.specs.NodeValues.{IsGreatestValue, AreGreatestValues}
+use Rattle.offer_model.specs.NodeValues.{IsGreatestValue}
 use Rattle.offer_model.specs.Chains.{ChainData, place_count, arriving, customer_count}
 use Rattle.offer_model.specs.Stopping.{StoppingData, IsGreatest, IsStopping, own_value, value_bound, quotient_up, upper_step, lower_step}
 use Rattle.offer_model.proofs.BestLemmas.{IsBest-unique}
@@ -24,7 +22,7 @@ use Rattle.proof_lines.specs.Lines.{text_of}
 use Rattle.proof_lines.specs.Trees.{Tree, lines_of}
 use Rattle.proof_lines.specs.Trees.Tree.{leaf, branch}
 use Rattle.proof_lines.specs.Closing.{Closes}
-use Rattle.proof_lines.specs.Acceptance.{proof_of, IsAccepted, chain_lines}
+use Rattle.proof_lines.specs.Acceptance.{proof_of, chain_lines}
 use Rattle.proof_lines.specs.Writing.{Rule, IsPathLeaf, IsPath, IsSearchTree, ratio_rule, mixed_rule, exact_leaf, offered_end, RatioForm, FormUnder, IsWrittenBy, IsWritten, IsWrittenChain}
 use Rattle.proof_lines.specs.Laws.{branch_count, IsPathUnder, IsFixedUnder}
 
@@ -82,7 +80,7 @@ same_branch i j a b c d e f g = cc
 
 abbrev IsRuleLeaf : ProblemData → List Bool → Rule → List Mark → Shape → List ℕ → Type 0
 IsRuleLeaf p x rule node s us = (Clashes p node × (s ≡ S.Clash) × (us ≡ []))
-  ⊎ (¬ Clashes p node × (s ≡ rule.shape) × rule.HasNumbers node us × Closes p x node rule.shape us)
+    ⊎ (¬ Clashes p node × (s ≡ rule.shape) × rule.HasNumbers node us × Closes p x node rule.shape us)
 
 leaves_one : (p : ProblemData) (x : List Bool) (rule : Rule) (node : List Mark) (s t : Shape) (us vs : List ℕ) → IsFixing rule
     → IsRuleLeaf p x rule node s us → IsRuleLeaf p x rule node t vs → leaf s us ≡ leaf t vs
@@ -101,8 +99,8 @@ search_one p x rule node (branch i a b) (branch j c d) f h k =
     let P : ℕ → Type 0 = λ n. IsSearchTree p x rule (slice_set node n In) a in
     let Q : ℕ → Type 0 = λ n. IsSearchTree p x rule (slice_set node n Out) b in
     same_branch i j a b c d same
-      (search_one p x rule (slice_set node j In) a c f (subst P same h.3) k.3)
-      (search_one p x rule (slice_set node j Out) b d f (subst Q same h.4) k.4)
+    (search_one p x rule (slice_set node j In) a c f (subst P same h.3) k.3)
+    (search_one p x rule (slice_set node j Out) b d f (subst Q same h.4) k.4)
 
 first_one : (node : List Mark) (i j : ℕ) → IsFirstOpen node i → IsFirstOpen node j → i ≡ j
 first_one node i j h k = elim (cases_lt i j) [
@@ -143,7 +141,7 @@ lists_one (u ∷ us) (v ∷ vs) l h = joined (h 0 (omega arith)) (lists_one us v
 mixed_fixes : (p : ProblemData) → IsFixing (mixed_rule p)
 mixed_fixes p = record {
   numbers = λ node us vs h k. lists_one us vs (h.each ∙ sym k.each)
-    (λ j l. value_one p (segment_at p j) node (slice_index us j) (slice_index vs j) (h.greatest j l) (k.greatest j (inside us vs j (h.each ∙ sym k.each) l)));
+      (λ j l. value_one p (segment_at p j) node (slice_index us j) (slice_index vs j) (h.greatest j l) (k.greatest j (inside us vs j (h.each ∙ sym k.each) l)));
   branches = λ node i j h k. dearest_one p node i j h k;
 }
   where
@@ -217,8 +215,8 @@ stopping_one c s t h k =
     let P : List Bool → Type 0 = λ z. IsGreatest (place_count c) (value_bound c) (lower_step c z) s.lower in
     let lower = greatest_one (place_count c) (value_bound c) (lower_step c t.set) s.lower t.lower (subst P set h.lower) k.lower in
     joined set upper lower
-      (h.lo ∙ ap (λ z. arriving c (slice_index z) / customer_count c) lower ∙ sym k.lo)
-      (h.up ∙ ap (λ z. quotient_up (arriving c (slice_index z)) (customer_count c)) upper ∙ sym k.up)
+    (h.lo ∙ ap (λ z. arriving c (slice_index z) / customer_count c) lower ∙ sym k.lo)
+    (h.up ∙ ap (λ z. quotient_up (arriving c (slice_index z)) (customer_count c)) upper ∙ sym k.up)
   where
     set_at : (i : ℕ) → i < place_count c → s.upper ≡ t.upper → offers s.set i ≡ offers t.set i
     set_at i l e = h.set i l ∙ ap (λ z. eqb (slice_index z i) (own_value c i)) e ∙ sym (k.set i l)

@@ -33,7 +33,7 @@ own_prices p x = prices_at p (gain_of p (first_segment p) x) (weight_of p (first
 -- Under logit and generalised attraction, a leaf that bounds by prices.
 abbrev pub PricesClose : ProblemData → List Bool → List Mark → Shape → List ℕ → Prices → Type 0
 PricesClose p x node S.Multipliers us at = MultipliersFit p us
-  × BoundCloses x node (Some (multipliers_bound p node us at))
+    × BoundCloses x node (Some (multipliers_bound p node us at))
 PricesClose p x node S.Shelf us at = (us ≡ []) × ¬ Clashes p node × BoundCloses x node (shelf_bound p node at)
 PricesClose p x node S.Potentials us at = ¬ Clashes p node × PotentialsFit p node at.price us
     × BoundCloses x node (Some (potentials_bound p node us at))

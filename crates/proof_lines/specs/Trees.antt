@@ -1,5 +1,5 @@
 -- The tree of a certificate, and the text of a proof. Own.
-use Rattle.std.specs.Prelude.{◌≡◌, ℕ, ⊤, Bool, true, false, List, [], ◌∷◌}
+use Rattle.std.specs.Prelude.{◌≡◌, ℕ, ⊤, List, [], ◌∷◌}
 use Rattle.offer_model.specs.declared.products.ModelName.{ModelName}
 use Rattle.proof_lines.specs.declared.line.Shape.{Shape}
 use Rattle.proof_lines.specs.declared.line.Shape.TheVariants as S

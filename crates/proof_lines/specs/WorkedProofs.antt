@@ -1,5 +1,5 @@
 -- Small certificates, accepted and rejected. Each catalogue names its products' margins and attractions in order.
-use Rattle.std.specs.Prelude.{ℕ, Bool, true, false, List, [], ◌∷◌, ◌++◌, codes}
+use Rattle.std.specs.Prelude.{ℕ, List, [], ◌∷◌, ◌++◌, codes}
 use Rattle.offer_model.specs.declared.products.ModelName.{ModelName}
 use Rattle.offer_model.specs.declared.products.ModelName.TheVariants.{Logit, Mixed}
 use Rattle.offer_model.specs.declared.products.Product.{Product}
@@ -42,8 +42,8 @@ FreePair = Accepts free_pair (joined (free_header ++ codes "m" ∷ codes "end" �
 -- The last leaf is missing; its number has a leading zero; the end is missing.
 abbrev pub FreePairBroken : Type 0
 FreePairBroken = ¬ Accepts free_pair (joined (free_header ++ codes "end" ∷ []))
-  × ¬ Accepts free_pair (joined (free_header ++ codes "m 01" ∷ codes "end" ∷ []))
-  × ¬ Accepts free_pair (joined (free_header ++ codes "m" ∷ []))
+    × ¬ Accepts free_pair (joined (free_header ++ codes "m 01" ∷ codes "end" ∷ []))
+    × ¬ Accepts free_pair (joined (free_header ++ codes "m" ∷ []))
 
 -- ---- Two equal products of which one may be offered.
 
@@ -52,7 +52,7 @@ capped_pair = catalogue Logit 2 (plain 10 ∷ plain 10 ∷ []) (2 ∷ 2 ∷ []) 
 
 abbrev pub capped_text : List ℕ → List ℕ
 capped_text leaf = joined (codes "assort-proof 1" ∷ codes "model logit" ∷ codes "set 01" ∷ codes "value 20/4"
-  ∷ codes "b 0" ∷ leaf ∷ codes "b 1" ∷ codes "m 0" ∷ codes "m 0" ∷ codes "end" ∷ [])
+    ∷ codes "b 0" ∷ leaf ∷ codes "b 1" ∷ codes "m 0" ∷ codes "m 0" ∷ codes "end" ∷ [])
 
 -- With the multiplier 40 the first leaf's bound is 0, with 39 it is 1.
 abbrev pub CappedPair : Type 0
@@ -65,7 +65,7 @@ required_chain = catalogue Logit 2 (plain 10 ∷ plain 0 ∷ plain 0 ∷ []) (1 
 
 abbrev pub required_text : List ℕ → List ℕ
 required_text leaf = joined (codes "assort-proof 1" ∷ codes "model logit" ∷ codes "set 111" ∷ codes "value 10/5"
-  ∷ codes "b 0" ∷ codes "b 2" ∷ codes "b 1" ∷ codes "m 0 0" ∷ codes "x" ∷ leaf ∷ codes "m 0 0" ∷ codes "end" ∷ [])
+    ∷ codes "b 0" ∷ codes "b 2" ∷ codes "b 1" ∷ codes "m 0 0" ∷ codes "x" ∷ leaf ∷ codes "m 0 0" ∷ codes "end" ∷ [])
 
 -- With the multipliers 20 the leaf's bound is 0, and its node has a completion that comes before.
 abbrev pub RequiredChain : Type 0
@@ -78,7 +78,7 @@ mixed_pair = catalogue Mixed 1 (plain 10 ∷ plain 6 ∷ []) (1 ∷ 1 ∷ []) []
 
 abbrev pub MixedPair : Type 0
 MixedPair = Accepts mixed_pair (joined (codes "assort-proof 1" ∷ codes "model mixed" ∷ codes "set 10" ∷ codes "value 5"
-  ∷ codes "b 0" ∷ codes "s 5" ∷ codes "s 3" ∷ codes "end" ∷ []))
+    ∷ codes "b 0" ∷ codes "s 5" ∷ codes "s 3" ∷ codes "end" ∷ []))
 
 -- ---- Products of space 3, 2 and 2 on a shelf of 4.
 
@@ -90,7 +90,7 @@ shelf_of_three = catalogue Logit 4 (spaced_by 10 3 ∷ spaced_by 8 2 ∷ spaced_
 
 abbrev pub ShelfOfThree : Type 0
 ShelfOfThree = Accepts shelf_of_three (joined (codes "assort-proof 1" ∷ codes "model logit" ∷ codes "set 011" ∷ codes "value 32/8"
-  ∷ codes "b 0" ∷ codes "t" ∷ codes "b 1" ∷ codes "b 2" ∷ codes "t" ∷ codes "t" ∷ codes "t" ∷ codes "end" ∷ []))
+    ∷ codes "b 0" ∷ codes "t" ∷ codes "b 1" ∷ codes "b 2" ∷ codes "t" ∷ codes "t" ∷ codes "t" ∷ codes "end" ∷ []))
 
 -- ---- A price ladder: grades 1, 1 and 2, each product's price is its margin.
 
@@ -102,7 +102,7 @@ ladder_of_three = catalogue Logit 1 (on_ladder 5 1 ∷ on_ladder 8 1 ∷ on_ladd
 
 abbrev pub ladder_text : List ℕ → List ℕ
 ladder_text leaf = joined (codes "assort-proof 1" ∷ codes "model logit" ∷ codes "set 010" ∷ codes "value 8/2"
-  ∷ codes "b 0" ∷ leaf ∷ codes "b 1" ∷ codes "p 0 0 0" ∷ codes "p 0 0 4" ∷ codes "end" ∷ [])
+    ∷ codes "b 0" ∷ leaf ∷ codes "b 1" ∷ codes "p 0 0 0" ∷ codes "p 0 0 4" ∷ codes "end" ∷ [])
 
 -- The third product's weight is 4.
 abbrev pub LadderOfThree : Type 0
@@ -122,12 +122,12 @@ walk_of_three = record {
 
 abbrev pub walk_text : List ℕ → List ℕ → List ℕ
 walk_text value upper = joined (codes "assort-proof 1" ∷ codes "model chain" ∷ codes "set 100" ∷ value ∷ upper
-  ∷ codes "h 10000000 1111111 3333333" ∷ codes "end" ∷ [])
+    ∷ codes "h 10000000 1111111 3333333" ∷ codes "end" ∷ [])
 
 -- Three times 1111111 is below 3333334.
 abbrev pub WalkOfThree : Type 0
 WalkOfThree = AcceptsChain walk_of_three (walk_text (codes "value 1111111 1111112") (codes "u 10000000 1111112 3333334"))
-  × ¬ AcceptsChain walk_of_three (walk_text (codes "value 1111111 1111111") (codes "u 10000000 1111111 3333334"))
+    × ¬ AcceptsChain walk_of_three (walk_text (codes "value 1111111 1111111") (codes "u 10000000 1111111 3333334"))
 
 -- ---- All of them.
 

@@ -4,7 +4,7 @@ use Prim.Native.Nat.{zero, suc}
 use Rattle.std.specs.Bool.{MatchBool}
 use Rattle.std.specs.List.{list_all}
 use Rattle.offer_model.specs.declared.node.Mark.{Mark}
-use Rattle.offer_model.specs.declared.node.Mark.TheVariants.{In, Out, Open}
+use Rattle.offer_model.specs.declared.node.Mark.TheVariants.{In, Out}
 use Rattle.offer_model.specs.declared.products.ModelName.{ModelName}
 use Rattle.offer_model.specs.declared.products.ModelName.TheVariants.{Logit, Attract, Mixed, Chain}
 use Rattle.offer_model.specs.declared.products.Limit.{Limit}
@@ -72,8 +72,8 @@ abbrev pub IsPath : ProblemData → List Bool → Shape → ℕ → ℕ → List
 IsPath p x shape zero k node tree = IsPathLeaf p shape node tree
 IsPath p x shape (suc more) k node (leaf s us) = ⊥
 IsPath p x shape (suc more) k node (branch i inside outside) = (i ≡ k) × MatchBool (offers x k)
-  (IsPath p x shape more (k + 1) (slice_set node k In) inside × IsPathLeaf p shape (slice_set node k Out) outside)
-  (IsPathLeaf p shape (slice_set node k In) inside × IsPath p x shape more (k + 1) (slice_set node k Out) outside)
+    (IsPath p x shape more (k + 1) (slice_set node k In) inside × IsPathLeaf p shape (slice_set node k Out) outside)
+    (IsPathLeaf p shape (slice_set node k In) inside × IsPath p x shape more (k + 1) (slice_set node k Out) outside)
 
 -- ---- Otherwise: the tree of a search, which fixes every byte.
 
@@ -86,11 +86,11 @@ pub record Rule : Type 1 where
 -- At each node `x` where it clashes; else the rule's leaf where that closes; else the rule's branch.
 abbrev pub IsSearchTree : ProblemData → List Bool → Rule → List Mark → Tree → Type 0
 IsSearchTree p x rule node (leaf s us) = (Clashes p node × (s ≡ S.Clash) × (us ≡ []))
-  ⊎ (¬ Clashes p node × (s ≡ rule.shape) × rule.HasNumbers node us × Closes p x node rule.shape us)
+    ⊎ (¬ Clashes p node × (s ≡ rule.shape) × rule.HasNumbers node us × Closes p x node rule.shape us)
 IsSearchTree p x rule node (branch i inside outside) = ¬ Clashes p node
-  × ((us : List ℕ) → rule.HasNumbers node us → ¬ Closes p x node rule.shape us)
-  × rule.BranchesOn node i
-  × IsSearchTree p x rule (slice_set node i In) inside × IsSearchTree p x rule (slice_set node i Out) outside
+    × ((us : List ℕ) → rule.HasNumbers node us → ¬ Closes p x node rule.shape us)
+    × rule.BranchesOn node i
+    × IsSearchTree p x rule (slice_set node i In) inside × IsSearchTree p x rule (slice_set node i Out) outside
 
 -- Under logit and generalised attraction: multipliers that are all 0, and the first Open product.
 abbrev pub ratio_rule : ProblemData → Rule

@@ -1,4 +1,4 @@
-use Rattle.std.proofs.Common.{◌≡◌, ◌++◌, ◌+◌, ◌<◌, length, arith, sym, ◌∙◌, ap}
+use Rattle.std.proofs.Common.{arith, ◌∙◌}
 use Rattle.std.proofs.lemmas.Fmt.{decimal_digit}
 use Rattle.proof_lines.proofs.NumberLemmas.{decimal_last, length-decimal_step, length-decimal_digit}
 use Rattle.proof_lines.proofs.numbers.+push_number.Goals as goal

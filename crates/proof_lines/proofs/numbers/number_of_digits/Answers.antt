@@ -1,5 +1,4 @@
-use Rattle.std.proofs.Common.{◌≡◌, ◌<◌, ◌≤◌, ◌⊎◌, ⊎_elim, length, get_or, arith, List, [], ◌∷◌, ℕ, sym, ◌∙◌}
-use Rattle.std.specs.Bool.{◌==◌}
+use Rattle.std.proofs.Common.{◌<◌, ⊎_elim, length, arith}
 use Rattle.std.proofs.lemmas.Bool.Decides.{nat_tests}
 use Rattle.proof_lines.proofs.NumberLemmas.{decimal-digits_value, no_digits, too_many, leading_zero, too_great}
 use Rattle.proof_lines.proofs.numbers.number_of_digits.Goals as goal

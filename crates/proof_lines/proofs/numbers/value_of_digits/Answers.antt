@@ -1,4 +1,4 @@
-use Rattle.std.proofs.Common.{◌≡◌, ◌<◌, ◌-◌, length, get_or, arith}
+use Rattle.std.proofs.Common.{◌-◌, length, get_or, arith}
 use Rattle.std.proofs.lemmas.Str.Parse.{digit_at}
 use Rattle.offer_model.proofs.DigitLemmas.{digit_more, digit_bound}
 use Rattle.proof_lines.proofs.NumberLemmas.{digit_fits}

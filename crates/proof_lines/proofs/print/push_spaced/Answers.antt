@@ -1,4 +1,4 @@
-use Rattle.std.proofs.Common.{◌≡◌, ◌+◌, ◌++◌, ◌<◌, length, drop, arith}
+use Rattle.std.proofs.Common.{◌++◌, ◌<◌, length, arith}
 use Rattle.proof_lines.specs.Lines.{spaced}
 use Rattle.proof_lines.proofs.SpacedLemmas.{spaced-push, length-spaced_drop, spaced_drop-some}
 use Rattle.proof_lines.proofs.print.push_spaced.Goals as goal

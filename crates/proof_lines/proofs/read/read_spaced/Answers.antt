@@ -1,4 +1,4 @@
-use Rattle.std.proofs.Common.{◌≡◌, ◌<◌, ◌≤◌, length, length-append, [], ◌∷◌, arith}
+use Rattle.std.proofs.Common.{◌≤◌, length-append, [], ◌∷◌, arith}
 use Rattle.proof_lines.specs.Lines.{most_number}
 use Rattle.proof_lines.proofs.ReadLemmas.{AllByRecursion-push, no_space, no_field, StandsAt, field_inside, spaced_read, left_more}
 use Rattle.proof_lines.proofs.read.read_spaced.Goals as goal

@@ -1,4 +1,4 @@
-use Rattle.std.proofs.Common.{◌≡◌, ◌<◌, ◌≤◌, ◌+◌, ◌-◌, length, length-drop, get_or, drop, arith, sym, ◌∙◌}
+use Rattle.std.proofs.Common.{◌<◌, ◌+◌, length, length-drop, get_or, drop, arith, sym}
 use Rattle.proof_lines.proofs.ValueLemmas.{value_begins, tail_is, follows, no_form, second_is, no_second, second_whole, reads_whole, reads_two}
 use Rattle.proof_lines.proofs.read.read_value.Goals as goal
 
