@@ -1,0 +1,5 @@
+mod FieldLemmas
+mod HeaderLemmas
+mod PositionLemmas
+mod RecordCountLemmas
+mod TableLemmas
