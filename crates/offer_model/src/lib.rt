@@ -24,7 +24,9 @@ pub use node::{Mark, Node};
 pub use numerals::{MOST_DIGITS, read_number};
 pub use problems::Problem;
 pub use products::{Fraction, Limit, ModelName, Product};
-pub use ranges::{MOST_AMOUNT, MOST_COUNT, MOST_LIMITS, MOST_PRODUCTS, MOST_REQUIRES, MOST_SEGMENTS};
+pub use ranges::{
+    MOST_AMOUNT, MOST_COUNT, MOST_LIMITS, MOST_PRODUCTS, MOST_REQUIRES, MOST_SEGMENTS,
+};
 pub use revenue::{compare_fraction, gain, value_order, weight};
 pub use segments::Segment;
 pub use texts::Texts;

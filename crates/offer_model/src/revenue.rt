@@ -28,7 +28,11 @@ fn product_weight(p: &Problem, g: usize, i: usize, offered: bool) -> u128
     ensures bound { result ≤ 10 ^ 9 }
 {
     let segment = p.segments().get(g);
-    u128::from(if offered { segment.attract(i) } else { segment.shadow(i) })
+    u128::from(if offered {
+        segment.attract(i)
+    } else {
+        segment.shadow(i)
+    })
 }
 
 /// The sum of margin times attraction over what is offered: revenue times [`weight`].
