@@ -1,0 +1,139 @@
+#!/usr/bin/env python3
+"""Measures the built program beside peers on the same inputs. See README.md."""
+import argparse
+import datetime
+import itertools
+import os
+import platform
+import shutil
+import subprocess
+import sys
+import tempfile
+import time
+from fractions import Fraction
+
+import generate
+
+HERE = os.path.dirname(os.path.abspath(__file__))
+PROGRAM = os.path.join(HERE, '..', 'crates', 'assort', 'out', 'assort')
+REPEATS = 7
+
+
+def best_time(work):
+    """The least of a few times, in milliseconds, and what the work gave."""
+    times = []
+    for _ in range(REPEATS):
+        start = time.perf_counter()
+        found = work()
+        times.append(time.perf_counter() - start)
+    return 1000 * min(times), found
+
+
+def solve(path, none):
+    words = [PROGRAM, 'solve', '--model', 'logit', '--products', path, '--none', str(none)]
+    ran = subprocess.run(words, stdout=subprocess.PIPE, check=True)
+    value = ran.stdout.decode().splitlines()[-1].split()[1]
+    return Fraction(*(int(part) for part in value.split('/')))
+
+
+def enumerate_sets(products, none):
+    best = Fraction(0)
+    for chosen in itertools.product((False, True), repeat=len(products)):
+        offered = [p for p, c in zip(products, chosen) if c]
+        value = Fraction(sum(r * v for _, r, v in offered), none + sum(v for _, _, v in offered))
+        best = max(best, value)
+    return best
+
+
+def highs(products, none):
+    try:
+        from scipy.optimize import linprog
+    except ImportError:
+        return None
+    n = len(products)
+    cost = [0.0] + [-float(r) for _, r, _ in products]
+    rows = [[-v / none] + [1.0 if j == i else 0.0 for j in range(n)] for i, (_, _, v) in enumerate(products)]
+    def work():
+        return -linprog(cost, A_ub=rows, b_ub=[0.0] * n, A_eq=[[1.0] * (n + 1)], b_eq=[1.0], method='highs').fun
+    return work
+
+
+def glpk(products, none, folder):
+    if not shutil.which('glpsol'):
+        return None
+    path = os.path.join(folder, 'model.lp')
+    with open(path, 'w') as f:
+        f.write('Maximize\n obj: ' + ' + '.join('%d y%d' % (r, i) for i, (_, r, _) in enumerate(products)) + '\nSubject To\n')
+        f.write(' one: z + ' + ' + '.join('y%d' % i for i in range(len(products))) + ' = 1\n')
+        for i, (_, _, v) in enumerate(products):
+            f.write(' c%d: y%d - %.17g z <= 0\n' % (i, i, v / none))
+        f.write('End\n')
+    def work():
+        subprocess.run(['glpsol', '--lp', path, '-o', os.path.join(folder, 'solution')], stdout=subprocess.DEVNULL, check=True)
+    return work
+
+
+def machine():
+    model = 'unknown processor'
+    try:
+        with open('/proc/cpuinfo') as f:
+            model = next(line.split(':', 1)[1].strip() for line in f if line.startswith('model name'))
+    except (OSError, StopIteration):
+        pass
+    return '%s, %d processors, %s' % (model, os.cpu_count() or 0, platform.system())
+
+
+def cases():
+    for n in (8, 12, 16):
+        yield 'random, %d products' % n, *generate.random_products(n, n)
+    for n in (64, 256):
+        yield 'random, %d products' % n, *generate.random_products(n, n)
+    yield 'largest numbers, 256 products', *generate.largest_products(256)
+    yield 'equal ratios, 256 products', *generate.tied_products(256)
+    yield 'falling margins, 256 products', *generate.falling_products(256)
+
+
+def row(name, products, none, folder):
+    path = os.path.join(folder, 'products.csv')
+    generate.write_products(path, products)
+    own, value = best_time(lambda: solve(path, none))
+    cells = [name, '%.1f' % own]
+    if len(products) <= 16:
+        start = time.perf_counter()
+        assert enumerate_sets(products, none) == value, 'the enumeration finds another value'
+        took = 1000 * (time.perf_counter() - start)
+        cells.append('%.1f (%.1fx)' % (took, took / own))
+    else:
+        cells.append('')
+    for work in (highs(products, none), glpk(products, none, folder)):
+        if work is None:
+            cells.append('not installed')
+            continue
+        took, _ = best_time(work)
+        cells.append('%.1f (%.1fx)' % (took, took / own))
+    return '| ' + ' | '.join(cells) + ' |'
+
+
+def main():
+    options = argparse.ArgumentParser(description=__doc__)
+    options.add_argument('--keep', action='store_true', help='write the run to bench/runs/')
+    keep = options.parse_args().keep
+    if not os.path.exists(PROGRAM):
+        sys.exit('no program: build it first (rt ci, or tools/assort once)')
+    lines = ['Milliseconds, the least of %d; in brackets how many times the time of assort.' % REPEATS, '', machine(), '',
+             '| input | assort | enumeration in Python | HiGHS | GLPK |', '|---|---|---|---|---|']
+    folder = tempfile.mkdtemp()
+    try:
+        for case in cases():
+            lines.append(row(*case, folder))
+    finally:
+        shutil.rmtree(folder)
+    print('\n'.join(lines))
+    if keep:
+        name = '%s-%s.md' % (datetime.date.today().isoformat(), platform.machine())
+        with open(os.path.join(HERE, 'runs', name), 'w') as f:
+            f.write('# solve under multinomial logit\n\n' + '\n'.join(lines) + '\n')
+
+
+if __name__ == '__main__':
+    main()
