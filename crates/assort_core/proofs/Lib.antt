@@ -4,4 +4,7 @@ pub mod OrderLemmas
 pub mod RatioLemmas
 pub mod TrialLemmas
 pub mod FallLemmas
+pub mod ProofFileLemmas
+pub mod SolveLemmas
+pub mod AnswerLemmas
 pub mod RunLemmas

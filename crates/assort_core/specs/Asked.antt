@@ -1,5 +1,5 @@
 -- What the words of a command line ask for, or the first thing in them that is refused. Own.
-use Rattle.std.specs.Prelude.{◌≡◌, ℕ, ◌+◌, List, [], ◌∷◌, length, Option, Some, None, is_some, Result, Ok, Err, IsSome, IfSome, Bool, false, codes, if◌then◌else◌, nat_le, nat_lt, ◌&&◌}
+use Rattle.std.specs.Prelude.{◌≡◌, ℕ, ◌+◌, List, [], ◌∷◌, length, Option, Some, None, is_some, Result, Ok, Err, IsSome, IfSome, Bool, false, codes, if◌then◌else◌, nat_le, nat_lt, ◌&&◌, unwrap_or}
 use Rattle.std.specs.Option.{option_map, option_and_then}
 use Rattle.std.specs.Str.{bytes_eq}
 use Rattle.offer_model.specs.declared.products.ModelName.{ModelName}
@@ -8,12 +8,12 @@ use Rattle.offer_model.specs.declared.ranges.TheConstants.{MOST_AMOUNT}
 use Rattle.offer_model.specs.Validity.{IsPositiveAmount}
 use Rattle.offer_model.specs.Numerals.{number_of}
 use Rattle.assort_core.specs.declared.usage.Command.{Command}
-use Rattle.assort_core.specs.declared.usage.Command.TheVariants.{Solve}
+use Rattle.assort_core.specs.declared.usage.Command.TheVariants.{Solve, Check}
 use Rattle.assort_core.specs.declared.usage.Key.{Key}
-use Rattle.assort_core.specs.declared.usage.Key.TheVariants.{Model, Products, NoneWeight, NoKey}
+use Rattle.assort_core.specs.declared.usage.Key.TheVariants.{Model, Products, NoneWeight, Proof, NoKey}
 use Rattle.assort_core.specs.declared.usage.UsageFault.{UsageFault}
 use Rattle.assort_core.specs.declared.usage.UsageCode.{UsageCode}
-use Rattle.assort_core.specs.declared.usage.UsageCode.TheVariants.{NoCommand, UnknownCommand, UnknownOption, RepeatedOption, MissingValue, Nested, BadValue, MissingOption}
+use Rattle.assort_core.specs.declared.usage.UsageCode.TheVariants.{NoCommand, UnknownCommand, UnknownOption, RepeatedOption, MissingValue, Nested, BadValue, MissingOption, ProofIsInput}
 
 -- A command, and the value of each key that is given.
 pub record RequestData : Type 0 where
@@ -21,6 +21,7 @@ pub record RequestData : Type 0 where
   pub model : Option ModelName
   pub products : Option (List ℕ)
   pub none : Option ℕ
+  pub proof : Option (List ℕ)
 
 -- Each value that is given is one of its key's values.
 pub record IsInDomains (r : RequestData) : Type 0 where
@@ -32,13 +33,17 @@ pub record IsComplete (r : RequestData) : Type 0 where
   pub model : IsSome r.model
   pub products : IsSome r.products
   pub none : IsSome r.none
+  pub proof : r.command ≡ Check → IsSome r.proof
 
 -- A command, and no key yet.
 abbrev pub bare_request : Command → RequestData
-bare_request c = record { command = c; model = None; products = None; none = None }
+bare_request c = record { command = c; model = None; products = None; none = None; proof = None }
 
 abbrev pub command_of : List ℕ → Option Command
-command_of word = if bytes_eq word (codes "solve") then Some Solve else None
+command_of word =
+    if bytes_eq word (codes "solve") then Some Solve
+    else (if bytes_eq word (codes "check") then Some Check
+    else None)
 
 -- The key that a word names.
 abbrev pub key_of : List ℕ → Option Key
@@ -46,7 +51,8 @@ key_of word =
     if bytes_eq word (codes "--model") then Some Model
     else (if bytes_eq word (codes "--products") then Some Products
     else (if bytes_eq word (codes "--none") then Some NoneWeight
-    else None))
+    else (if bytes_eq word (codes "--proof") then Some Proof
+    else None)))
 
 abbrev pub model_of : List ℕ → Option ModelName
 model_of word = if bytes_eq word (codes "logit") then Some Logit else None
@@ -67,6 +73,7 @@ abbrev pub is_given : RequestData → Key → Bool
 is_given r Model = is_some r.model
 is_given r Products = is_some r.products
 is_given r NoneWeight = is_some r.none
+is_given r Proof = is_some r.proof
 is_given r NoKey = false
 
 -- The request with one more key, where the word is one of the key's values.
@@ -74,6 +81,7 @@ abbrev pub with_value : RequestData → Key → List ℕ → Option RequestData
 with_value r Model word = option_map (λ m. record r { model = Some m }) (model_of word)
 with_value r Products word = option_map (λ name. record r { products = Some name }) (name_of word)
 with_value r NoneWeight word = option_map (λ n. record r { none = Some n }) (amount_of word)
+with_value r Proof word = option_map (λ name. record r { proof = Some name }) (name_of word)
 with_value r NoKey word = None
 
 -- A refusal at a word.
@@ -85,6 +93,7 @@ abbrev pub asks_nested : Key → List ℕ → Bool
 asks_nested Model word = bytes_eq word (codes "nested")
 asks_nested Products word = false
 asks_nested NoneWeight word = false
+asks_nested Proof word = false
 asks_nested NoKey word = false
 
 -- The key of the word at place p, which is new.
@@ -120,12 +129,25 @@ abbrev pub first_missing : RequestData → List Key → Option Key
 first_missing r [] = None
 first_missing r (k ∷ keys) = if is_given r k then first_missing r keys else Some k
 
--- A request that has all that its command needs.
+-- The keys that a command needs.
+abbrev pub needed_keys : Command → List Key
+needed_keys Solve = Model ∷ Products ∷ NoneWeight ∷ []
+needed_keys Check = Model ∷ Products ∷ NoneWeight ∷ Proof ∷ []
+
+-- Whether the proof has the name of a file that is read.
+abbrev pub proof_is_input : RequestData → Bool
+proof_is_input r = named r.proof
+  where
+    named : Option (List ℕ) → Bool
+    named None = false
+    named (Some name) = bytes_eq name (unwrap_or r.products [])
+
+-- A request that has all that its command needs, and whose proof is none of its inputs.
 abbrev pub completed : RequestData → Result RequestData UsageFault
-completed r = checked (first_missing r (Model ∷ Products ∷ NoneWeight ∷ []))
+completed r = checked (first_missing r (needed_keys r.command))
   where
     checked : Option Key → Result RequestData UsageFault
-    checked None = Ok r
+    checked None = if proof_is_input r then Err (refused_at ProofIsInput 0) else Ok r
     checked (Some k) = Err (record { code = MissingOption; word = 0; key = k })
 
 -- The request of the words, or their first refusal. Words are counted from 1.

@@ -4,3 +4,5 @@ pub mod Trials
 pub mod Reports
 pub mod Outcomes
 pub mod Runs
+pub mod Stops
+pub mod ProofFiles

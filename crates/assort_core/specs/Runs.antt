@@ -1,27 +1,18 @@
 -- What a run of the program does to the store and to the two sinks. Own.
-use Rattle.std.specs.Prelude.{◌≡◌, ℕ, ◌≤◌, List, ◌++◌, take, Some, IsTrue, IsOkAnd, Contains}
+use Rattle.std.specs.Prelude.{◌≡◌, ◌⊎◌, ℕ, ◌≤◌, Bool, List, [], ◌++◌, length, take, Option, Some, IsTrue, Contains}
 use Rattle.offer_io.specs.Causes.{Rose}
-use Rattle.offer_io.specs.Stores.{StoreView}
+use Rattle.offer_io.specs.Stores.{StoreView, Stays}
 use Rattle.offer_io.specs.Sinks.{SinkView}
 use Rattle.catalogue.specs.Rows.{RowData}
-use Rattle.assort_core.specs.declared.solve.Stop.{Stop}
-use Rattle.assort_core.specs.declared.solve.Stop.TheVariants.{Unread, TooLarge, NotPlain, NoMemory}
-use Rattle.assort_core.specs.Asked.{RequestData, asked_of}
-use Rattle.assort_core.specs.Lines.{unread_line, unwritten_line, too_large_line, not_plain_line, memory_line}
-use Rattle.assort_core.specs.Outcomes.{Outcome, IsOutcome, HasRows, done, products_name}
-
--- The status of each reason to stop, and its line.
-abbrev pub status_of : Stop → ℕ
-status_of Unread = 4
-status_of TooLarge = 3
-status_of NotPlain = 3
-status_of NoMemory = 5
-
-abbrev pub stop_line : Stop → List ℕ
-stop_line Unread = unread_line
-stop_line TooLarge = too_large_line
-stop_line NotPlain = not_plain_line
-stop_line NoMemory = memory_line
+use Rattle.offer_model.specs.Best.{IsBest}
+use Rattle.proof_lines.specs.Trees.{Tree}
+use Rattle.proof_lines.specs.Acceptance.{IsAccepted}
+use Rattle.proof_lines.specs.Writing.{IsWritten}
+use Rattle.assort_core.specs.declared.check.TheConstants.{MOST_PROOF}
+use Rattle.assort_core.specs.declared.usage.Command.TheVariants.{Solve, Check}
+use Rattle.assort_core.specs.Asked.{RequestData}
+use Rattle.assort_core.specs.Lines.{unread_line, unread_proof_line, unwritten_line, unwritten_proof_line}
+use Rattle.assort_core.specs.Outcomes.{Outcome, IsOutcome, IsAnswerTo, HasRows, answer, asked_problem, products_name, proof_name}
 
 -- A line was written to standard error: whole where its count of faults didn't rise, else a part from the line's front.
 pub record Says (old : SinkView) (line : List ℕ) (new : SinkView) : Type 0 where
@@ -50,23 +41,99 @@ pub record Performs (words : List (List ℕ)) (store : StoreView) (status : ℕ)
   pub prints : Prints out outcome.report out'
   pub says : Says err outcome.line err'
 
--- The products file can't be read: a call of the store failed, and a steady store doesn't hold the name.
-pub record CannotRead (r : RequestData) (store store' : StoreView) (out out' err err' : SinkView) : Type 0 where
+-- The products file is told, and has rows.
+abbrev pub HasCatalogue : RequestData → StoreView → Type 0
+HasCatalogue r store =
+    (bytes : List ℕ) × (store.file (products_name r) ≡ Some bytes) × ((rows : List RowData) × HasRows bytes rows)
+
+-- A file that is asked for can't be read: a call of the store failed, and a steady store doesn't hold the name.
+pub record CannotRead (name : List ℕ) (store store' : StoreView) : Type 0 where
   pub cause : Rose store.faults store'.faults
-  pub unheld : IsTrue store.steady → Contains store.held (products_name r) → ⊥
+  pub unheld : IsTrue store.steady → Contains store.held name → ⊥
+
+-- The proof can't be read: `check` asks for it, and the products file is a plain table.
+pub record CannotReadProof (r : RequestData) (store store' : StoreView) : Type 0 where
+  pub asked : r.command ≡ Check
+  pub fails : CannotRead (proof_name r) store store'
+  pub before : IsTrue store.tells → HasCatalogue r store
+
+-- The proof can't be written: `solve` asks for it and has its report, and a call of the store failed, which is not steady.
+pub record CannotWriteProof (r : RequestData) (store store' : StoreView) : Type 0 where
+  pub asked : (r.command ≡ Solve) × ((name : List ℕ) × (r.proof ≡ Some name))
+  pub cause : Rose store.faults store'.faults
+  pub unsteady : IsTrue store.steady → ⊥
+  pub before : IsTrue store.tells → (report : List ℕ) × IsAnswerTo r store.file (answer 0 report)
+
+-- A call of the store failed, the line says which file it was, and nothing was printed.
+pub record StoreFails (r : RequestData) (store store' : StoreView) (out out' err err' : SinkView) : Type 0 where
+  pub why : (CannotRead (products_name r) store store' × Says err unread_line err')
+      ⊎ (CannotReadProof r store store' × Says err unread_proof_line err')
+      ⊎ (CannotWriteProof r store store' × Says err unwritten_proof_line err')
   pub silent : out' ≡ out
-  pub says : Says err unread_line err'
 
 -- The report can't be written: a call of the sink failed. Where the store tells its files, it is the report that the
 -- words and the files make.
-pub record CannotWrite (words : List (List ℕ)) (store : StoreView) (out out' err err' : SinkView) : Type 0 where
+pub record OutFails (words : List (List ℕ)) (store : StoreView) (out out' err err' : SinkView) : Type 0 where
+  pub status : ℕ
   pub report : List ℕ
   pub fails : FailsToPrint out report out'
-  pub is_outcome : IsTrue store.tells → IsOutcome words store.file (done report)
+  pub is_outcome : IsTrue store.tells → IsOutcome words store.file (answer status report)
   pub says : Says err unwritten_line err'
 
--- The words ask rightly, and the store tells that the products file is a plain table.
-pub record HasSolution (words : List (List ℕ)) (store : StoreView) : Type 0 where
+-- ---- What stands afterwards.
+
+-- The request asks for a proof of this name.
+pub record AsksForProof (r : RequestData) (name : List ℕ) : Type 0 where
+  pub command : r.command ≡ Solve
+  pub name_is : r.proof ≡ Some name
+
+-- The content is a proof for the problem of the products file.
+abbrev pub IsProofFile : RequestData → StoreView → Option (List ℕ) → Type 0
+IsProofFile r store content =
+    (bytes : List ℕ) × (store.file (products_name r) ≡ Some bytes) × ((rows : List RowData) × HasRows bytes rows
+    × ((text : List ℕ) × IsWritten (asked_problem r rows) text × (content ≡ Some text)))
+
+-- The content is empty, or a part from the front of such a proof.
+abbrev pub IsProofPart : RequestData → StoreView → Option (List ℕ) → Type 0
+IsProofPart r store content = (content ≡ Some [])
+    ⊎ ((bytes : List ℕ) × (store.file (products_name r) ≡ Some bytes) × ((rows : List RowData) × HasRows bytes rows
+    × ((text : List ℕ) × IsWritten (asked_problem r rows) text × ((n : ℕ) × (content ≡ Some (take n text))))))
+
+-- No file changed but a proof that the request asks for.
+abbrev pub OthersStand : RequestData → StoreView → StoreView → Type 0
+OthersStand r store store' = IsTrue store.tells → (other : List ℕ) → (AsksForProof r other → ⊥) → store'.file other ≡ store.file other
+
+-- The proof that the request asks for is whole.
+abbrev pub ProofStands : RequestData → StoreView → StoreView → Type 0
+ProofStands r store store' = IsTrue store.tells → (name : List ℕ) → AsksForProof r name → IsProofFile r store (store'.file name)
+
+-- It is as it was, or a part from its front.
+abbrev pub ProofMayStand : RequestData → StoreView → StoreView → Type 0
+ProofMayStand r store store' = IsTrue store.tells → (name : List ℕ) → AsksForProof r name
+    → (store'.file name ≡ store.file name) ⊎ IsProofPart r store (store'.file name)
+
+-- No file changed.
+abbrev pub FilesStand : StoreView → StoreView → Type 0
+FilesStand store store' = IsTrue store.tells → (other : List ℕ) → store'.file other ≡ store.file other
+
+-- What no run changes, and counts that never fall.
+pub record Endures (store store' : StoreView) : Type 0 where
+  pub later : store.faults ≤ store'.faults
+  pub stays : Stays store store'
+
+-- The store tells that the products file is a plain table, and for `check` that the proof is there and not too large.
+pub record IsAnswerable (r : RequestData) (store : StoreView) : Type 0 where
   pub tells : IsTrue store.tells
-  pub rows : IsOkAnd (asked_of words) (λ r.
-      (bytes : List ℕ) × (store.file (products_name r) ≡ Some bytes) × ((rows : List RowData) × HasRows bytes rows))
+  pub catalogue : HasCatalogue r store
+  pub proof : r.command ≡ Check → (text : List ℕ) × (store.file (proof_name r) ≡ Some text) × (length text ≤ MOST_PROOF)
+
+-- The names of the files that a request reads are held.
+abbrev pub HoldsInputs : RequestData → StoreView → Type 0
+HoldsInputs r store = Contains store.held (products_name r) × (r.command ≡ Check → Contains store.held (proof_name r))
+
+-- The proof that was checked is there, and its assortment is the best one.
+abbrev pub ClaimHolds : RequestData → StoreView → Type 0
+ClaimHolds r store =
+    (bytes : List ℕ) × (store.file (products_name r) ≡ Some bytes) × ((rows : List RowData) × HasRows bytes rows
+    × ((text : List ℕ) × (store.file (proof_name r) ≡ Some text)
+    × ((x : List Bool) × (tree : Tree) × IsAccepted (asked_problem r rows) text x tree × IsBest (asked_problem r rows) x)))

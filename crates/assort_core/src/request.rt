@@ -13,6 +13,7 @@ pub struct Request<'a> {
     pub(crate) model: Option<ModelName>,
     pub(crate) products: Option<&'a str>,
     pub(crate) none: Option<u64>,
+    pub(crate) proof: Option<&'a str>,
 }
 
 impl<'a> Model for Request<'a> {
@@ -21,9 +22,9 @@ impl<'a> Model for Request<'a> {
 
     ghost Value = { RequestData };
 
-    ghost view = { λ r. record { command = r.command; model = r.model; products = option_copied r.products; none = r.none } };
+    ghost view = { λ r. record { command = r.command; model = r.model; products = option_copied r.products; none = r.none; proof = option_copied r.proof } };
 
-    ghost invariant = { λ r. IsInDomains (record { command = r.command; model = r.model; products = option_copied r.products; none = r.none }) };
+    ghost invariant = { λ r. IsInDomains (record { command = r.command; model = r.model; products = option_copied r.products; none = r.none; proof = option_copied r.proof }) };
 }
 
 impl<'a> Request<'a> {
@@ -38,6 +39,7 @@ impl<'a> Request<'a> {
             model: None,
             products: None,
             none: None,
+            proof: None,
         }
     }
 
@@ -49,6 +51,7 @@ impl<'a> Request<'a> {
             Key::Model => self.model.is_some(),
             Key::Products => self.products.is_some(),
             Key::NoneWeight => self.none.is_some(),
+            Key::Proof => self.proof.is_some(),
             Key::NoKey => false,
         }
     }
@@ -62,6 +65,7 @@ impl<'a> Request<'a> {
             model,
             products,
             none,
+            proof,
         } = self;
         match key {
             Key::Model => {
@@ -71,6 +75,7 @@ impl<'a> Request<'a> {
                     model: Some(model),
                     products,
                     none,
+                    proof,
                 })
             }
             Key::Products => {
@@ -80,6 +85,7 @@ impl<'a> Request<'a> {
                     model,
                     products: Some(name),
                     none,
+                    proof,
                 })
             }
             Key::NoneWeight => {
@@ -89,6 +95,17 @@ impl<'a> Request<'a> {
                     model,
                     products,
                     none: Some(none),
+                    proof,
+                })
+            }
+            Key::Proof => {
+                let name = read_name(word)?;
+                Some(Request {
+                    command,
+                    model,
+                    products,
+                    none,
+                    proof: Some(name),
                 })
             }
             Key::NoKey => None,
@@ -121,5 +138,12 @@ impl<'a> Request<'a> {
         ensures valid { IsInDomains self.now }
     {
         self.none
+    }
+
+    pub fn proof(&self) -> Option<&'a str>
+        ensures value { option_copied result ≡ self.now.proof }
+        ensures valid { IsInDomains self.now }
+    {
+        self.proof
     }
 }

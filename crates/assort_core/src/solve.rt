@@ -1,120 +1,86 @@
-ghost use Rattle.std.specs.Prelude.{◌≡◌, ◌≤◌, ◌<◌, Bool, List, ℕ, Some, IfOk, IsErrOf, IsTrue, Contains, length};
-ghost use Rattle.offer_io.specs.Causes.{Rose};
-ghost use Rattle.offer_io.specs.Stores.{Passes};
-ghost use Rattle.catalogue.specs.PlainTables.{IsPlainTable, IsNotPlain};
-ghost use Rattle.catalogue.specs.Records.{records_of};
+ghost use Rattle.std.specs.Prelude.{◌≡◌, [], length, Some, IfOk, IfErr, OnOk, OnErr, IsErrOf, IsTrue, ◌⊎◌};
+ghost use Rattle.offer_model.specs.Best.{IsBest};
+ghost use Rattle.offer_model.specs.Problems.{product_count};
+ghost use Rattle.offer_model.specs.Validity.{IsRatioModel};
+ghost use Rattle.assort_core.specs.declared.usage.Command.TheVariants as command;
 ghost use Rattle.assort_core.specs.Asked.{IsComplete};
-ghost use Rattle.assort_core.specs.Outcomes.{asked_problem, products_name, IsTooLarge, HasNoRows, IsBestReport, IsBestReportOf};
+ghost use Rattle.assort_core.specs.Outcomes.{asked_problem, answer, IsAnswerTo, IsBestReport};
+ghost use Rattle.assort_core.specs.Reports.{problem_report};
+ghost use Rattle.assort_core.specs.Runs.{Endures, OthersStand, ProofStands, ProofMayStand, FilesStand};
+ghost use Rattle.assort_core.specs.Stops.{WhyStopped, status_of};
 
 use crate::best::best_free;
+use crate::inputs::{Inputs, read_inputs};
+use crate::proof::write_proof;
 use crate::report::report_problem;
 use crate::request::Request;
-use catalogue::{Catalogue, InputFault, MOST_TABLE, SegmentTable, problem_of, read_products};
-use offer_io::{LoadFault, Store, load};
-use offer_model::{Bytes, Limits, ModelName, NoMemory};
+use crate::stops::Stop;
+use offer_io::Store;
+use offer_model::{Assortment, Bytes, NoMemory};
 use std::alloc::Global;
 
-/// Why there is no report.
-#[derive(Clone, Copy, Debug, PartialEq, Eq)]
-pub(crate) enum Stop {
-    Unread,
-    TooLarge,
-    NotPlain,
-    NoMemory,
+/// A status and what is printed with it.
+#[derive(Drop)]
+pub(crate) struct Answer {
+    pub(crate) status: u8,
+    pub(crate) report: Bytes,
 }
 
-impl From<NoMemory> for Stop {
-    ghost use Rattle.std.specs.Prelude.{◌≡◌};
-    ghost use Rattle.assort_core.specs.declared.solve.Stop.TheVariants as stop;
-
-    ghost from_gives = { λ _ e. e ≡ stop.NoMemory };
-
-    fn from(_: NoMemory) -> Self {
-        Stop::NoMemory
-    }
-}
-
-/// The bytes of the products file.
-fn loaded<S: Store>(alloc: Global, store: &mut S, name: &str) -> Result<Bytes, Stop>
-    ensures passes { Passes (S.view store.old) (S.view store.new) }
-    ensures content { IfOk result (λ bytes. IsTrue (S.view store.old).tells
-        → (S.view store.old).file name.now ≡ Some bytes.items) }
-    ensures fits { IfOk result (λ bytes. length bytes.items ≤ MOST_TABLE) }
-    ensures too_large { IsErrOf result Stop.TooLarge → IsTrue (S.view store.old).tells
-        → (content : List ℕ) × ((S.view store.old).file name.now ≡ Some content) × IsTooLarge content }
-    ensures unread { IsErrOf result Stop.Unread
-        → Rose (S.view store.old).faults (S.view store.new).faults }
-    ensures ready { IsTrue (S.view store.old).steady → Contains (S.view store.old).held name.now
-        → ¬ IsErrOf result Stop.Unread }
-    ensures never { ¬ IsErrOf result Stop.NotPlain }
+fn done(report: Bytes) -> Answer
+    ensures status { result.status ≡ 0 }
+    ensures report { result.report ≡ report }
 {
-    match load(alloc, store, name, MOST_TABLE) {
-        Ok(bytes) => Ok(bytes),
-        Err(LoadFault::ReadFault) => Err(Stop::Unread),
-        Err(LoadFault::TooLong) => Err(Stop::TooLarge),
-        Err(LoadFault::NoMemory) => Err(Stop::NoMemory),
-    }
+    Answer { status: 0, report }
 }
 
-/// The catalogue of the products file.
-fn catalogue_of(alloc: Global, bytes: &Bytes, model: ModelName) -> Result<Catalogue, Stop>
-    requires { length bytes.now.items ≤ MOST_TABLE }
-    ensures rows { IfOk result (IsPlainTable (records_of bytes.now.items)) }
-    ensures not_plain { IsErrOf result Stop.NotPlain → IsNotPlain (records_of bytes.now.items) }
-    ensures never_unread { ¬ IsErrOf result Stop.Unread }
-    ensures never_large { ¬ IsErrOf result Stop.TooLarge }
+/// The best assortment and its report.
+#[derive(Drop)]
+struct Solution {
+    best: Assortment,
+    report: Bytes,
+}
+
+fn solution_of(alloc: Global, inputs: &Inputs) -> Result<Solution, NoMemory>
+    requires model { IsRatioModel inputs.now.problem.model }
+    requires free { inputs.now.problem.limits ≡ [] }
+    requires products { product_count inputs.now.problem ≡ length inputs.now.catalogue }
+    ensures best { IfOk result (λ s. IsBest inputs.now.problem s.best) }
+    ensures report { IfOk result (λ s. s.report.items ≡ problem_report inputs.now.catalogue inputs.now.problem s.best) }
 {
-    match read_products(alloc, bytes.as_slice(), model) {
-        Ok(catalogue) => Ok(catalogue),
-        Err(InputFault::Fault { .. }) => Err(Stop::NotPlain),
-        Err(InputFault::NoMemory) => Err(Stop::NoMemory),
-    }
+    let best = best_free(alloc, &inputs.problem)?;
+    let report = report_problem(alloc, &inputs.catalogue, &inputs.problem, &best)?;
+    Ok(Solution { best, report })
 }
 
-/// The report of the best assortment of a catalogue.
-fn best_report(alloc: Global, request: &Request<'_>, c: &Catalogue) -> Result<Bytes, NoMemory>
-    requires { IsComplete request.now }
-    ensures { IfOk result (λ report. IsBestReportOf request.now c.now report.items) }
-{
-    let Some(model) = request.model() else {
-        unreachable!();
-    };
-    let Some(none) = request.none() else {
-        unreachable!();
-    };
-    let segments = SegmentTable::empty(alloc);
-    let limits = Limits::new(alloc);
-    let p = problem_of(alloc, c, model, none, 1, &segments, &limits)?;
-    let best = best_free(alloc, &p)?;
-    report_problem(alloc, c, &p, &best)
-}
-
-/// What a request to solve prints, or why there is nothing to print.
+/// What `solve` prints, after the proof that is asked for was written.
 pub(crate) fn solve<S: Store>(
     alloc: Global,
     request: &Request<'_>,
     store: &mut S,
-) -> Result<Bytes, Stop>
-    requires { IsComplete request.now }
-    ensures passes { Passes (S.view store.old) (S.view store.new) }
-    ensures report { IfOk result (λ report. IsTrue (S.view store.old).tells
-        → (bytes : List ℕ) × ((S.view store.old).file (products_name request.now) ≡ Some bytes) × IsBestReport request.now bytes report.items) }
-    ensures too_large { IsErrOf result Stop.TooLarge → IsTrue (S.view store.old).tells
-        → (bytes : List ℕ) × ((S.view store.old).file (products_name request.now) ≡ Some bytes) × IsTooLarge bytes }
-    ensures not_plain { IsErrOf result Stop.NotPlain → IsTrue (S.view store.old).tells
-        → (bytes : List ℕ) × ((S.view store.old).file (products_name request.now) ≡ Some bytes) × HasNoRows bytes }
-    ensures unread { IsErrOf result Stop.Unread
-        → Rose (S.view store.old).faults (S.view store.new).faults }
-    ensures ready { IsTrue (S.view store.old).steady → Contains (S.view store.old).held (products_name request.now)
-        → ¬ IsErrOf result Stop.Unread }
+) -> Result<Answer, Stop>
+    requires complete { IsComplete request.now }
+    requires command { request.now.command ≡ command.Solve }
+    ensures answer { IfOk result (λ a. IsTrue (S.view store.old).tells
+        → IsAnswerTo request.now (S.view store.old).file (answer a.status a.report.items)) }
+    ensures status { IfOk result (λ a. a.status ≡ 0) }
+    ensures stopped { IfErr result (WhyStopped request.now (S.view store.old) (S.view store.new)) }
+    ensures others { OthersStand request.now (S.view store.old) (S.view store.new) }
+    ensures proof { OnOk result (ProofStands request.now (S.view store.old) (S.view store.new)) }
+    ensures part { OnErr result (ProofMayStand request.now (S.view store.old) (S.view store.new)) }
+    ensures kept { IfErr result (λ stop. status_of stop ≡ 3 → FilesStand (S.view store.old) (S.view store.new)) }
+    ensures endures { Endures (S.view store.old) (S.view store.new) }
 {
-    let Some(name) = request.products() else {
-        unreachable!();
+    let proof = request.proof();
+    let inputs = match read_inputs(alloc, request, store) {
+        Err(stop) => return Err(stop),
+        Ok(inputs) => inputs,
     };
-    let Some(model) = request.model() else {
-        unreachable!();
+    let solution = solution_of(alloc, &inputs)?;
+    let Some(name) = proof else {
+        return Ok(done(solution.report));
     };
-    let bytes = loaded(alloc, store, name)?;
-    let catalogue = catalogue_of(alloc, &bytes, model)?;
-    Ok(best_report(alloc, request, &catalogue)?)
+    match write_proof(alloc, &inputs.problem, &solution.best, store, name) {
+        Err(stop) => Err(stop),
+        Ok(()) => Ok(done(solution.report)),
+    }
 }

@@ -180,3 +180,121 @@ fn a_steady_store_gives_the_same_report(rt: HostRuntime) -> Result<(), Fail> {
     assert_eq!(rt; out.written(), 58);
     Ok(())
 }
+
+const SOLVE_AND_PROVE: &str = "solve --model logit --products p.csv --none 5 --proof q";
+
+const CHECK_FIVE: &str = "check --model logit --products p.csv --none 5 --proof q";
+
+const FIRST_PROOF: &[u8] =
+    b"assort-proof 1\nmodel logit\nset 11\nvalue 32/10\nb 0\nb 1\nm\nm\nm\nend\n";
+
+#[test]
+fn the_proof_is_the_one_of_the_table_and_is_accepted(rt: HostRuntime) -> Result<(), Fail> {
+    let nothing = b"name,margin,attraction\n".as_slice();
+    let nothing_proof = b"assort-proof 1\nmodel logit\nset -\nvalue 0/5\nm\nend\n".as_slice();
+    for (products, proof) in [(FIRST, FIRST_PROOF), (nothing, nothing_proof)] {
+        let mut store = MemoryStore::new(rt.alloc());
+        store.put("p.csv", products)?;
+        store.put("q", b"an older file")?;
+        let solved = run_over(&rt, rt.alloc(), SOLVE_AND_PROVE, &mut store, NOTHING_FAILS)?;
+        assert_eq!(rt; solved.status, 0);
+        assert!(rt; store.file("q") == Some(proof));
+        let checked = run_over(&rt, rt.alloc(), CHECK_FIVE, &mut store, NOTHING_FAILS)?;
+        assert_eq!(rt; checked.status, 0);
+        assert_eq!(rt; checked.out.as_slice(), b"accepted\n".as_slice());
+        assert!(rt; checked.err.is_empty());
+    }
+    Ok(())
+}
+
+#[test]
+fn broken_proofs_are_rejected(rt: HostRuntime) -> Result<(), Fail> {
+    let cases: [&[u8]; 6] = [
+        b"assort-proof 1\nmodel logit\nset 11\nvalue 32/10\nb 0\nb 1\nm\nm\nend\n",
+        b"assort-proof 1\nmodel logit\nset 11\nvalue 32/10\nb 0\nb 1\nm\nm\nm 01\nend\n",
+        b"assort-proof 1\nmodel logit\nset 11\nvalue 32/10\nb 0\nb 1\nm\nm\nm\n",
+        b"assort-proof 1\nmodel logit\nset 10\nvalue 20/7\nb 0\nb 1\nm\nm\nm\nend\n",
+        b"assort-proof 1\nmodel logit\nset 11\nvalue 32/10\nb 0\nb 1\nm\nm\nm\nend\n\n",
+        b"",
+    ];
+    for proof in cases {
+        let mut store = MemoryStore::new(rt.alloc());
+        store.put("p.csv", FIRST)?;
+        store.put("q", proof)?;
+        let said = run_over(&rt, rt.alloc(), CHECK_FIVE, &mut store, NOTHING_FAILS)?;
+        assert_eq!(rt; said.status, 1);
+        assert_eq!(rt; said.out.as_slice(), b"rejected\n".as_slice());
+        assert!(rt; said.err.is_empty());
+    }
+    Ok(())
+}
+
+const UNREAD: &[u8] = b"assort: cannot read products\n";
+
+const UNWRITTEN: &[u8] = b"assort: cannot write proof\n";
+
+const UNREAD_PROOF: &[u8] = b"assort: cannot read proof\n";
+
+/// Lets each call of the store fail in turn, until a run meets no failure. Answers how many failed at the second file.
+fn fail_in_turn<R: Threads + Sync>(
+    rt: &R,
+    alloc: Global,
+    line: &str,
+    before: &[u8],
+    told: &[u8],
+) -> Result<u64, Fail> {
+    let mut second = 0;
+    let mut call = 0;
+    loop {
+        call += 1;
+        let mut store = MemoryStore::new(alloc);
+        store.put("p.csv", FIRST)?;
+        store.put("q", before)?;
+        store.fail_at(call)?;
+        let said = run_over(rt, alloc, line, &mut store, NOTHING_FAILS)?;
+        if said.status == 0 {
+            return Ok(second);
+        }
+        let at_second = said.err.as_slice() == told;
+        second += u64::from(at_second);
+        let Some(left) = store.file("q") else {
+            return Ok(0);
+        };
+        let kept = left == before || (at_second && FIRST_PROOF.starts_with(left));
+        if said.status != 4
+            || !said.out.is_empty()
+            || !kept
+            || !(at_second || said.err.as_slice() == UNREAD)
+        {
+            return Ok(0);
+        }
+    }
+}
+
+#[test]
+fn each_call_of_the_store_that_fails_is_named(rt: HostRuntime) -> Result<(), Fail> {
+    let solved = fail_in_turn(
+        &rt,
+        rt.alloc(),
+        SOLVE_AND_PROVE,
+        b"an older file",
+        UNWRITTEN,
+    )?;
+    assert_eq!(rt; solved, 12);
+    let checked = fail_in_turn(&rt, rt.alloc(), CHECK_FIVE, FIRST_PROOF, UNREAD_PROOF)?;
+    assert!(rt; checked > 1);
+    Ok(())
+}
+
+#[test]
+fn the_second_line_that_fails_leaves_the_first(rt: HostRuntime) -> Result<(), Fail> {
+    let mut store = MemoryStore::new(rt.alloc());
+    store.put("p.csv", FIRST)?;
+    store.fail_at(6)?;
+    let said = run_over(&rt, rt.alloc(), SOLVE_AND_PROVE, &mut store, NOTHING_FAILS)?;
+    assert_eq!(rt; said.status, 4);
+    assert!(rt; said.out.is_empty());
+    assert_eq!(rt; said.err.as_slice(), UNWRITTEN);
+    assert!(rt; store.file("q") == Some(b"assort-proof 1\n".as_slice()));
+    Ok(())
+}

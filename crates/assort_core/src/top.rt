@@ -1,12 +1,14 @@
-ghost use Rattle.std.specs.Prelude.{◌≡◌, ◌≢◌, ◌≤◌, ◌<◌, ◌⊎◌, Some, IsTrue, IfOk, IfErr, MatchResult, Contains};
+ghost use Rattle.std.specs.Prelude.{◌≡◌, ◌≢◌, ◌≤◌, ◌<◌, ◌⊎◌, IsTrue, IfOk, IsOkAnd, MatchResult};
 ghost use Rattle.offer_io.specs.Causes.{Rose};
-ghost use Rattle.offer_io.specs.Stores.{Passes};
+ghost use Rattle.assort_core.specs.declared.usage.Command.TheVariants as command;
 ghost use Rattle.assort_core.specs.Asked.{asked_of};
 ghost use Rattle.assort_core.specs.Lines.{usage_line, memory_line, unwritten_line};
-ghost use Rattle.assort_core.specs.Outcomes.{products_name};
-ghost use Rattle.assort_core.specs.Runs.{HasSolution, Performs, Prints, FailsToPrint, Says, CannotRead, CannotWrite, status_of, stop_line};
+ghost use Rattle.assort_core.specs.Runs.{Performs, Prints, FailsToPrint, Says, StoreFails, OutFails, IsAnswerable, HoldsInputs, ClaimHolds, OthersStand, ProofStands, ProofMayStand, FilesStand, Endures};
+ghost use Rattle.assort_core.specs.Stops.{status_of, stop_line};
 
-use crate::solve::{Stop, solve};
+use crate::answers::answer_to;
+use crate::solve::Answer;
+use crate::stops::Stop;
 use crate::usage_line::usage_line;
 use crate::words::read_words;
 use offer_io::{Gate, Sink, Store};
@@ -14,8 +16,8 @@ use offer_model::Texts;
 use std::alloc::Global;
 use std::thread::Threads;
 
-#[tactic(auto, using(crate::proofs::RunLemmas::said))]
 /// Writes a line to standard error. A failure changes nothing else.
+#[tactic(auto, using(crate::proofs::RunLemmas::said))]
 fn say<E: Sink>(err: &mut E, line: &[u8])
     ensures { Says (E.view err.old) line.now (E.view err.new) }
 {
@@ -40,6 +42,18 @@ fn refuse<E: Sink>(err: &mut E, stop: Stop) -> u8
             say(err, b"assort: products row 1: not a plain table\n");
             3
         }
+        Stop::UnreadProof => {
+            say(err, b"assort: cannot read proof\n");
+            4
+        }
+        Stop::ProofTooLarge => {
+            say(err, b"assort: proof: file too large\n");
+            3
+        }
+        Stop::UnwrittenProof => {
+            say(err, b"assort: cannot write proof\n");
+            4
+        }
         Stop::NoMemory => {
             say(err, b"assort: out of memory\n");
             5
@@ -48,18 +62,19 @@ fn refuse<E: Sink>(err: &mut E, stop: Stop) -> u8
 }
 
 /// Prints a report, and answers the status.
-fn print<O: Sink, E: Sink>(out: &mut O, err: &mut E, report: &[u8]) -> u8
-    ensures status { (result ≡ 0) ⊎ (result ≡ 4) }
-    ensures prints { result ≡ 0 → Prints (O.view out.old) report.now (O.view out.new) }
-    ensures quiet { result ≡ 0 → E.view err.new ≡ E.view err.old }
-    ensures fails { result ≡ 4 → FailsToPrint (O.view out.old) report.now (O.view out.new) }
+fn print<O: Sink, E: Sink>(out: &mut O, err: &mut E, answer: &Answer) -> u8
+    requires { answer.now.status < 2 }
+    ensures status { (result ≡ answer.now.status) ⊎ (result ≡ 4) }
+    ensures prints { result ≢ 4 → Prints (O.view out.old) answer.now.report.items (O.view out.new) }
+    ensures quiet { result ≢ 4 → E.view err.new ≡ E.view err.old }
+    ensures fails { result ≡ 4 → FailsToPrint (O.view out.old) answer.now.report.items (O.view out.new) }
     ensures says { result ≡ 4 → Says (E.view err.old) unwritten_line (E.view err.new) }
 {
-    if out.write(report).is_err() {
+    if out.write(answer.report.as_slice()).is_err() {
         say(err, b"assort: cannot write output\n");
         return 4;
     }
-    0
+    answer.status
 }
 
 /// All that the program does. It answers the status; every call returns.
@@ -75,9 +90,9 @@ pub fn run<R: Threads + Sync, S: Store, O: Sink, E: Sink, G: Gate + Sync>(
     err: &mut E,
     gate: &G,
 ) -> u8
-    ensures statuses { (result ≤ 5) × (result ≢ 1) }
+    ensures statuses { result ≤ 5 }
 
-    // 0, 2 and 3, where the store tells its files: status, report and line are those of the words and the files.
+    // 0 to 3, where the store tells its files: status, report and line are those of the words and the files.
     ensures outcome { result < 4 → IsTrue (S.view store.old).tells
         → Performs words.now (S.view store.old) result (O.view out.old) (O.view out.new) (E.view err.old) (E.view err.new) }
 
@@ -85,26 +100,35 @@ pub fn run<R: Threads + Sync, S: Store, O: Sink, E: Sink, G: Gate + Sync>(
     ensures usage { MatchResult (asked_of words.now) (λ _. result ≢ 2)
         (λ fault. (result ≡ 2) × Says (E.view err.old) (usage_line fault) (E.view err.new)) }
 
-    // 4 comes only where the products file can't be read or the report can't be written.
+    // 4 comes only where a call of the store or of standard output failed.
     ensures failed { result ≡ 4 → IfOk (asked_of words.now) (λ r.
-        CannotRead r (S.view store.old) (S.view store.new) (O.view out.old) (O.view out.new) (E.view err.old) (E.view err.new)
-        ⊎ CannotWrite words.now (S.view store.old) (O.view out.old) (O.view out.new) (E.view err.old) (E.view err.new)) }
+        StoreFails r (S.view store.old) (S.view store.new) (O.view out.old) (O.view out.new) (E.view err.old) (E.view err.new)
+        ⊎ OutFails words.now (S.view store.old) (O.view out.old) (O.view out.new) (E.view err.old) (E.view err.new)) }
     ensures steady { result ≡ 4 → IsTrue (S.view store.old).steady
-        → IfOk (asked_of words.now) (λ r. Contains (S.view store.old).held (products_name r))
+        → IfOk (asked_of words.now) (λ r. HoldsInputs r (S.view store.old))
         → Rose (O.view out.old).faults (O.view out.new).faults }
 
     // 5 is want of memory.
     ensures memory { result ≡ 5 → Says (E.view err.old) memory_line (E.view err.new) }
 
-    // Where the words ask rightly, the file has a solution and no count of faults rose, the report is printed, or memory ran out.
-    ensures complete { HasSolution words.now (S.view store.old)
+    // Where the request can be answered and no count of faults rose, its report is printed, or memory ran out.
+    ensures complete { IsOkAnd (asked_of words.now) (λ r. IsAnswerable r (S.view store.old))
         → (Rose (S.view store.old).faults (S.view store.new).faults → ⊥)
-        → (Rose (O.view out.old).faults (O.view out.new).faults → ⊥) → (result ≡ 0) ⊎ (result ≡ 5) }
+        → (Rose (O.view out.old).faults (O.view out.new).faults → ⊥) → (result < 2) ⊎ (result ≡ 5) }
 
-    // What stands afterwards.
-    ensures silent { result ≢ 0 → result ≢ 4 → O.view out.new ≡ O.view out.old }
-    ensures quiet { result ≡ 0 → E.view err.new ≡ E.view err.old }
-    ensures files { Passes (S.view store.old) (S.view store.new) }
+    // 0 of `check`: the proof's assortment is the best one.
+    ensures checked { result ≡ 0 → IsTrue (S.view store.old).tells
+        → IfOk (asked_of words.now) (λ r. r.command ≡ command.Check → ClaimHolds r (S.view store.old)) }
+
+    // What was printed, and what stands afterwards.
+    ensures silent { result ≢ 0 → result ≢ 1 → result ≢ 4 → O.view out.new ≡ O.view out.old }
+    ensures quiet { result < 2 → E.view err.new ≡ E.view err.old }
+    ensures others { IfOk (asked_of words.now) (λ r. OthersStand r (S.view store.old) (S.view store.new)) }
+    ensures proof { result ≡ 0 → IfOk (asked_of words.now) (λ r. ProofStands r (S.view store.old) (S.view store.new)) }
+    ensures part { 4 ≤ result → IfOk (asked_of words.now) (λ r.
+        ProofStands r (S.view store.old) (S.view store.new) ⊎ ProofMayStand r (S.view store.old) (S.view store.new)) }
+    ensures kept { 0 < result → result < 4 → FilesStand (S.view store.old) (S.view store.new) }
+    ensures endures { Endures (S.view store.old) (S.view store.new) }
 {
     let request = match read_words(words) {
         Err(fault) => {
@@ -113,8 +137,8 @@ pub fn run<R: Threads + Sync, S: Store, O: Sink, E: Sink, G: Gate + Sync>(
         }
         Ok(request) => request,
     };
-    match solve(alloc, &request, store) {
+    match answer_to(alloc, &request, store) {
         Err(stop) => refuse(err, stop),
-        Ok(report) => print(out, err, report.as_slice()),
+        Ok(answer) => print(out, err, &answer),
     }
 }

@@ -2,6 +2,7 @@
 #[derive(Clone, Copy, Debug, PartialEq, Eq)]
 pub enum Command {
     Solve,
+    Check,
 }
 
 /// The keys of the command line, in the order in which a missing one is named.
@@ -11,6 +12,7 @@ pub enum Key {
     Products,
     /// `--none`, the weight of buying nothing.
     NoneWeight,
+    Proof,
     /// A fault that is about no key has this one.
     NoKey,
 }
@@ -27,6 +29,8 @@ pub enum UsageCode {
     Nested,
     BadValue,
     MissingOption,
+    /// The proof has the name of a file that is read.
+    ProofIsInput,
 }
 
 /// The first refusal of words.

@@ -17,6 +17,7 @@ fn key_text(key: Key) -> &'static str
         Key::Model => "--model",
         Key::Products => "--products",
         Key::NoneWeight => "--none",
+        Key::Proof => "--proof",
         Key::NoKey => "",
     }
 }
@@ -34,6 +35,7 @@ fn cause_text(code: UsageCode) -> &'static str
         UsageCode::Nested => "nested logit is not supported",
         UsageCode::BadValue => "bad value",
         UsageCode::MissingOption => "missing option ",
+        UsageCode::ProofIsInput => "proof names an input",
     }
 }
 
@@ -44,7 +46,7 @@ fn push_place(line: &mut ErrorLine, fault: &UsageFault)
     ensures len { array_string_len line.new ≤ array_string_len line.old + 60 }
 {
     match fault.code {
-        UsageCode::NoCommand => {}
+        UsageCode::NoCommand | UsageCode::ProofIsInput => {}
         UsageCode::MissingOption => line.push_str(key_text(fault.key)),
         _ => {
             line.push_str(" at word ");

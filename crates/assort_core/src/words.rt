@@ -1,7 +1,7 @@
-ghost use Rattle.std.specs.Prelude.{◌≡◌, ◌+◌, ◌-◌, ◌<◌, ◌≤◌, ◌^◌, length, slice_get, Some, None, IfOk, drop};
+ghost use Rattle.std.specs.Prelude.{◌≡◌, ◌+◌, ◌-◌, ◌<◌, ◌≤◌, ◌^◌, length, slice_get, Some, None, IsSome, IfOk, drop};
 ghost use Rattle.std.specs.Option.{option_copied};
 ghost use Rattle.offer_model.specs.Numerals.{number_of};
-ghost use Rattle.assort_core.specs.Asked.{RequestData, asked_of, bare_request, command_of, key_of, model_of, name_of, amount_of, is_given, with_value, new_key, new_value, with_pairs, completed, IsComplete};
+ghost use Rattle.assort_core.specs.Asked.{RequestData, asked_of, bare_request, command_of, key_of, model_of, name_of, amount_of, is_given, with_value, new_key, new_value, with_pairs, completed, proof_is_input, IsComplete};
 
 use crate::request::Request;
 use crate::usage::{Command, Key, UsageCode, UsageFault};
@@ -33,6 +33,9 @@ fn read_command(word: &str) -> Option<Command>
     if word == "solve" {
         return Some(Command::Solve);
     }
+    if word == "check" {
+        return Some(Command::Check);
+    }
     None
 }
 
@@ -47,6 +50,9 @@ fn read_key(word: &str) -> Option<Key>
     }
     if word == "--none" {
         return Some(Key::NoneWeight);
+    }
+    if word == "--proof" {
+        return Some(Key::Proof);
     }
     None
 }
@@ -106,6 +112,20 @@ fn with_pairs<'a>(words: &'a Texts, command: Command) -> Result<Request<'a>, Usa
     Ok(request)
 }
 
+/// Whether the proof has the name of a file that is read.
+fn proof_is_input(request: &Request<'_>) -> bool
+    requires { IsSome request.now.products }
+    ensures { result ≡ proof_is_input request.now }
+{
+    let Some(proof) = request.proof() else {
+        return false;
+    };
+    let Some(products) = request.products() else {
+        unreachable!();
+    };
+    proof == products
+}
+
 /// A request that has all that its command needs.
 fn completed<'a>(request: Request<'a>) -> Result<Request<'a>, UsageFault>
     ensures value { result ≡ completed request.entry }
@@ -119,6 +139,12 @@ fn completed<'a>(request: Request<'a>) -> Result<Request<'a>, UsageFault>
     }
     if !request.has(Key::NoneWeight) {
         return Err(missing(Key::NoneWeight));
+    }
+    if request.command() == Command::Check && !request.has(Key::Proof) {
+        return Err(missing(Key::Proof));
+    }
+    if proof_is_input(&request) {
+        return Err(refused_at(UsageCode::ProofIsInput, 0));
     }
     Ok(request)
 }

@@ -1,5 +1,5 @@
-use Rattle.std.proofs.Common.{◌≡◌, ◌∙◌, sym, ap, refl, arith, Err, ⊎_elim}
-use Rattle.assort_core.proofs.RunLemmas.{performs_refusal, performs_stop, performs_solve}
+use Rattle.std.proofs.Common.{◌≡◌, ◌≢◌, ◌∙◌, sym, refl, arith, inl, inr, ⊎_elim}
+use Rattle.assort_core.proofs.RunLemmas.{performs_refusal, performs_stop, performs_answer, out_fails, claim_holds}
 use Rattle.assort_core.proofs.top.run.Goals as goal
 
 pub returns-in-Err-clause-outcome : goal.returns-in-Err-clause-outcome
@@ -15,17 +15,36 @@ returns-in-Err-clause-usage g c =
     let line = c.as_bytes.ensures.value ∙ c.as_str.ensures.value ∙ c.usage_line.ensures in
     rw asked (refl, rw line at c.say.ensures)
 
-pub returns-in-Err-solve-clause-outcome : goal.returns-in-Err-solve-clause-outcome
-returns-in-Err-solve-clause-outcome g c = λ small told.
-    let why = c.in-Err-solve.ensures in
-    rw c.refuse.ensures.status (performs_stop c.in-Err-solve.stop c.args.words.now (g.S.Store.view c.args.store.now) c.in-Ok.request (g.O.Sink.view c.args.out.now)
-    (g.E.Sink.view c.args.err.now) (g.E.Sink.view c.refuse.new.err) (sym c.read_words.ensures.value ∙ c.in-Ok.is)
-    (rw c.refuse.ensures.status at small) (λ e. why.too_large (ap Err e) told) (λ e. why.not_plain (ap Err e) told) c.refuse.ensures.line)
+pub returns-in-Err-answer_to-clause-outcome : goal.returns-in-Err-answer_to-clause-outcome
+returns-in-Err-answer_to-clause-outcome g c = λ small told.
+    let why = c.in-Err-answer_to.ensures in
+    rw c.refuse.ensures.status (performs_stop c.in-Err-answer_to.stop c.args.words.now (g.S.Store.view c.args.store.now) (g.S.Store.view c.answer_to.new.store) c.in-Ok.request
+    (g.O.Sink.view c.args.out.now) (g.E.Sink.view c.args.err.now) (g.E.Sink.view c.refuse.new.err) (sym c.read_words.ensures.value ∙ c.in-Ok.is)
+    (rw c.refuse.ensures.status at small) told why.stopped c.refuse.ensures.line)
 
-pub returns-in-Ok-solve-clause-outcome : goal.returns-in-Ok-solve-clause-outcome
-returns-in-Ok-solve-clause-outcome g c = λ small told.
-    let zero : c.print.result ≡ 0 = ⊎_elim (λ e. e) (λ e. absurd (omega arith)) c.print.ensures.status in
-    let there = c.in-Ok-solve.ensures.report told in
-    let prints = rw c.as_slice.ensures at (c.print.ensures.prints zero) in
-    rw (zero, c.print.ensures.quiet zero) (performs_solve c.args.words.now (g.S.Store.view c.args.store.now) c.in-Ok.request there.0 c.in-Ok-solve.report.items
-    (g.O.Sink.view c.args.out.now) (g.O.Sink.view c.print.new.out) (g.E.Sink.view c.args.err.now) (sym c.read_words.ensures.value ∙ c.in-Ok.is) there.1 there.2 prints)
+pub returns-in-Ok-answer_to-clause-outcome : goal.returns-in-Ok-answer_to-clause-outcome
+returns-in-Ok-answer_to-clause-outcome g c = λ small told.
+    let printed : c.print.result ≢ 4 = λ e. absurd (omega (arith, e, small)) in
+    let status : c.print.result ≡ c.in-Ok-answer_to.answer.status = ⊎_elim (λ e. e) (λ e. absurd (printed e)) c.print.ensures.status in
+    rw (status, c.print.ensures.quiet printed) (performs_answer c.args.words.now (g.S.Store.view c.args.store.now) c.in-Ok.request c.in-Ok-answer_to.answer.status
+    c.in-Ok-answer_to.answer.report.items (g.O.Sink.view c.args.out.now) (g.O.Sink.view c.print.new.out) (g.E.Sink.view c.args.err.now)
+    (sym c.read_words.ensures.value ∙ c.in-Ok.is) (c.in-Ok-answer_to.ensures.answer told) (c.print.ensures.prints printed))
+
+pub returns-in-Ok-answer_to-clause-failed : goal.returns-in-Ok-answer_to-clause-failed
+returns-in-Ok-answer_to-clause-failed g c = λ four.
+    let asked = sym c.read_words.ensures.value ∙ c.in-Ok.is in
+    rw asked (inr (out_fails c.args.words.now (g.S.Store.view c.args.store.now) c.in-Ok.request c.in-Ok-answer_to.answer.status c.in-Ok-answer_to.answer.report.items
+    (g.O.Sink.view c.args.out.now) (g.O.Sink.view c.print.new.out) (g.E.Sink.view c.args.err.now) (g.E.Sink.view c.print.new.err) asked
+    c.in-Ok-answer_to.ensures.answer (c.print.ensures.fails four) (c.print.ensures.says four)))
+
+pub returns-in-Ok-answer_to-clause-checked : goal.returns-in-Ok-answer_to-clause-checked
+returns-in-Ok-answer_to-clause-checked g c = λ zero told.
+    let asked = sym c.read_words.ensures.value ∙ c.in-Ok.is in
+    let status : c.print.result ≡ c.in-Ok-answer_to.answer.status = ⊎_elim (λ e. e) (λ e. absurd (omega (arith, e, zero))) c.print.ensures.status in
+    rw asked (λ check. claim_holds c.in-Ok.request (g.S.Store.view c.args.store.now) c.in-Ok-answer_to.answer.report.items check
+    (rw (sym status ∙ zero) at (c.in-Ok-answer_to.ensures.answer told)))
+
+pub returns-in-Ok-answer_to-clause-part : goal.returns-in-Ok-answer_to-clause-part
+returns-in-Ok-answer_to-clause-part g c = λ high.
+    let asked = sym c.read_words.ensures.value ∙ c.in-Ok.is in
+    rw asked (inl c.in-Ok-answer_to.ensures.proof)

@@ -1,0 +1,7 @@
+pub mod PathLemmas
+pub mod ListLemmas
+pub mod PriceLemmas
+pub mod LeafLemmas
+pub mod LeadLemmas
+pub mod FeedingLemmas
+pub mod ShortLemmas

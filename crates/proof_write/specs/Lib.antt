@@ -1,0 +1,3 @@
+pub mod FreeLines
+pub mod Outputs
+pub mod Room

@@ -1,0 +1,22 @@
+use std::error::Error;
+use std::fmt;
+
+/// Why a certificate was not written whole.
+#[derive(Clone, Copy, Debug, PartialEq, Eq)]
+pub enum ProofFault {
+    /// The store failed.
+    WriteFault,
+    /// Memory ran out, before anything was written.
+    NoMemory,
+}
+
+impl fmt::Display for ProofFault {
+    fn fmt<W: fmt::Write>(&self, f: &mut fmt::Formatter<W>) -> fmt::Result {
+        f.write_str(match self {
+            ProofFault::WriteFault => "the certificate can't be written",
+            ProofFault::NoMemory => "memory ran out",
+        })
+    }
+}
+
+impl Error for ProofFault {}
