@@ -36,6 +36,18 @@ def solve(path, none):
     return Fraction(*(int(part) for part in value.split('/')))
 
 
+def certify(path, none, folder):
+    """The times of solve with a certificate and of its check, and the certificate's bytes."""
+    proof = os.path.join(folder, 'proof.txt')
+    words = ['--model', 'logit', '--products', path, '--none', str(none), '--proof', proof]
+    def work(command):
+        said = subprocess.run([PROGRAM, command] + words, stdout=subprocess.PIPE, check=True).stdout
+        assert command == 'solve' or said == b'accepted\n', 'a certificate was rejected'
+    solved, _ = best_time(lambda: work('solve'))
+    checked, _ = best_time(lambda: work('check'))
+    return solved, checked, os.path.getsize(proof)
+
+
 def enumerate_sets(products, none):
     best = Fraction(0)
     for chosen in itertools.product((False, True), repeat=len(products)):
@@ -97,7 +109,8 @@ def row(name, products, none, folder):
     path = os.path.join(folder, 'products.csv')
     generate.write_products(path, products)
     own, value = best_time(lambda: solve(path, none))
-    cells = [name, '%.1f' % own]
+    solved, checked, size = certify(path, none, folder)
+    cells = [name, '%.1f' % own, '%.1f (%.1fx)' % (solved, solved / own), '%.1f (%.1fx)' % (checked, checked / own), str(size)]
     if len(products) <= 16:
         start = time.perf_counter()
         assert enumerate_sets(products, none) == value, 'the enumeration finds another value'
@@ -120,8 +133,8 @@ def main():
     keep = options.parse_args().keep
     if not os.path.exists(PROGRAM):
         sys.exit('no program: build it first (rt ci, or tools/assort once)')
-    lines = ['Milliseconds, the least of %d; in brackets how many times the time of assort.' % REPEATS, '', machine(), '',
-             '| input | assort | enumeration in Python | HiGHS | GLPK |', '|---|---|---|---|---|']
+    lines = ['Milliseconds, the least of %d; in brackets how many times the time of solve.' % REPEATS, '', machine(), '',
+             '| input | solve | solve with a certificate | check | its bytes | enumeration in Python | HiGHS | GLPK |', '|---|---|---|---|---|---|---|---|']
     folder = tempfile.mkdtemp()
     try:
         for case in cases():

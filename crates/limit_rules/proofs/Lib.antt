@@ -1,0 +1,2 @@
+pub mod WorkedLemmas
+pub mod CallerLemmas

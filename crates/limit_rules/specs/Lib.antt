@@ -1,0 +1,5 @@
+pub mod Kinds
+pub mod Measures
+pub mod Ladders
+pub mod Broken
+pub mod WorkedLimits

@@ -1,0 +1,20 @@
+//! Which limits an assortment breaks, which nodes clash with a limit, and which kind of limits a problem has.
+#![tactic(auto)]
+
+mod broken;
+mod choice;
+mod clash;
+mod fill;
+mod kind;
+mod ladder;
+mod laws;
+mod measure;
+mod meets;
+#[cfg(test)]
+mod tests;
+
+pub use broken::first_broken;
+pub use clash::clashes;
+pub use fill::fill_out;
+pub use kind::{Kind, kind_of};
+pub use laws::worked_kinds_hold;

@@ -1,0 +1,5 @@
+pub mod PushLemmas
+pub mod SameLemmas
+pub mod SizeLemmas
+pub mod CallerLemmas
+pub mod WorkedLemmas

@@ -1,0 +1,4 @@
+pub mod Weights
+pub mod Answers
+pub mod Closings
+pub mod WorkedWeights
