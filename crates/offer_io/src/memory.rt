@@ -185,7 +185,7 @@ impl Store for MemoryStore {
         ensures fails { IsErr result ↔ IsTrue (fails_next (store_plan self.old)) }
         ensures counted { Counts self.old result self.new }
     {
-        self.output = None;
+        self.output = None; // what was written stands
         if self.plan.fails_now() {
             self.faults = self.faults.saturating_add(1);
             return Err(Failed);
