@@ -144,8 +144,9 @@ def main():
     print('\n'.join(lines))
     if keep:
         name = '%s-%s.md' % (datetime.date.today().isoformat(), platform.machine())
+        os.makedirs(os.path.join(HERE, 'runs'), exist_ok=True)
         with open(os.path.join(HERE, 'runs', name), 'w') as f:
-            f.write('# solve under multinomial logit\n\n' + '\n'.join(lines) + '\n')
+            f.write('# solve and check under multinomial logit\n\n' + '\n'.join(lines) + '\n')
 
 
 if __name__ == '__main__':
