@@ -235,54 +235,56 @@ const UNWRITTEN: &[u8] = b"assort: cannot write proof\n";
 
 const UNREAD_PROOF: &[u8] = b"assort: cannot read proof\n";
 
-/// Lets each call of the store fail in turn, until a run meets no failure. Answers how many failed at the second file.
-fn fail_in_turn<R: Threads + Sync>(
-    rt: &R,
-    alloc: Global,
-    line: &str,
-    before: &[u8],
-    told: &[u8],
-) -> Result<u64, Fail> {
-    let mut second = 0;
-    let mut call = 0;
-    loop {
-        call += 1;
-        let mut store = MemoryStore::new(alloc);
+#[test]
+fn each_call_of_the_store_that_fails_is_named(rt: HostRuntime) -> Result<(), Fail> {
+    for call in 1..17u64 {
+        let mut store = MemoryStore::new(rt.alloc());
         store.put("p.csv", FIRST)?;
-        store.put("q", before)?;
+        store.put("q", b"an older file")?;
         store.fail_at(call)?;
-        let said = run_over(rt, alloc, line, &mut store, NOTHING_FAILS)?;
-        if said.status == 0 {
-            return Ok(second);
-        }
-        let at_second = said.err.as_slice() == told;
-        second += u64::from(at_second);
-        let Some(left) = store.file("q") else {
-            return Ok(0);
+        let said = run_over(&rt, rt.alloc(), SOLVE_AND_PROVE, &mut store, NOTHING_FAILS)?;
+        let status = if call < 16 { 4 } else { 0 };
+        let told = if call < 4 {
+            UNREAD
+        } else if call < 16 {
+            UNWRITTEN
+        } else {
+            b"".as_slice()
         };
-        let kept = left == before || (at_second && FIRST_PROOF.starts_with(left));
-        if said.status != 4
-            || !said.out.is_empty()
-            || !kept
-            || !(at_second || said.err.as_slice() == UNREAD)
-        {
-            return Ok(0);
-        }
+        assert_eq!(rt; said.status, status, "{call}");
+        assert_eq!(rt; said.err.as_slice(), told, "{call}");
+        assert!(rt; said.out.is_empty() == (call < 16));
+        let left = store.file("q").unwrap_or(b"no file".as_slice());
+        let kept = left == b"an older file".as_slice();
+        assert!(rt;
+            kept || (call > 3 && FIRST_PROOF.starts_with(left)),
+            "{call}"
+        );
     }
+    Ok(())
 }
 
 #[test]
-fn each_call_of_the_store_that_fails_is_named(rt: HostRuntime) -> Result<(), Fail> {
-    let solved = fail_in_turn(
-        &rt,
-        rt.alloc(),
-        SOLVE_AND_PROVE,
-        b"an older file",
-        UNWRITTEN,
-    )?;
-    assert_eq!(rt; solved, 12);
-    let checked = fail_in_turn(&rt, rt.alloc(), CHECK_FIVE, FIRST_PROOF, UNREAD_PROOF)?;
-    assert!(rt; checked > 1);
+fn each_call_of_the_store_that_fails_a_check_is_named(rt: HostRuntime) -> Result<(), Fail> {
+    for call in 1..8u64 {
+        let mut store = MemoryStore::new(rt.alloc());
+        store.put("p.csv", FIRST)?;
+        store.put("q", FIRST_PROOF)?;
+        store.fail_at(call)?;
+        let said = run_over(&rt, rt.alloc(), CHECK_FIVE, &mut store, NOTHING_FAILS)?;
+        let status = if call < 7 { 4 } else { 0 };
+        let told = if call < 4 {
+            UNREAD
+        } else if call < 7 {
+            UNREAD_PROOF
+        } else {
+            b"".as_slice()
+        };
+        assert_eq!(rt; said.status, status, "{call}");
+        assert_eq!(rt; said.err.as_slice(), told, "{call}");
+        assert!(rt; said.out.is_empty() == (call < 7));
+        assert!(rt; store.file("q") == Some(FIRST_PROOF));
+    }
     Ok(())
 }
 
