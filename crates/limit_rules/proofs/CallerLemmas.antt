@@ -5,10 +5,10 @@ use Rattle.std.proofs.lemmas.Bool.Decides.{nat_tests}
 use Rattle.std.specs.List.{list_all}
 use Rattle.offer_model.specs.declared.products.Limit.{Limit}
 use Rattle.offer_model.specs.declared.products.Limit.TheVariants.{Total, Category, Requires, Shelf, Ladder}
-use Rattle.offer_model.specs.Validity.{is_requires}
+use Rattle.offer_model.specs.Validity.{is_cap, is_requires, is_shelf, is_ladder}
 use Rattle.limit_rules.specs.declared.kind.Kind.{Kind}
 use Rattle.limit_rules.specs.declared.kind.Kind.TheVariants as K
-use Rattle.limit_rules.specs.Kinds.{is_cap, is_shelf, is_ladder, kind_of}
+use Rattle.limit_rules.specs.Kinds.{kind_of}
 
 -- The kind by its tests.
 abbrev chosen : Bool → Bool → Bool → Bool → Bool → Kind

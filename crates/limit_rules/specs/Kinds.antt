@@ -2,34 +2,11 @@
 use Rattle.std.specs.Prelude.{◌==◌, ◌&&◌, if◌then◌else◌, Bool, true, false, List, length}
 use Rattle.std.specs.List.{list_all}
 use Rattle.offer_model.specs.declared.products.Limit.{Limit}
-use Rattle.offer_model.specs.declared.products.Limit.TheVariants.{Total, Category, Requires, Shelf, Ladder}
-use Rattle.offer_model.specs.Validity.{is_requires}
+use Rattle.offer_model.specs.Validity.{is_cap, is_requires, is_shelf, is_ladder}
 use Rattle.limit_rules.specs.declared.kind.Kind.{Kind}
 use Rattle.limit_rules.specs.declared.kind.Kind.TheVariants as K
 use Rattle.limit_rules.specs.declared.kind.Family.{Family}
 use Rattle.limit_rules.specs.declared.kind.Family.TheVariants as F
-
--- A cap on the number of products, of all or of a category.
-abbrev pub is_cap : Limit → Bool
-is_cap (Total cap) = true
-is_cap (Category c cap) = true
-is_cap (Requires a b) = false
-is_cap (Shelf space) = false
-is_cap (Ladder l) = false
-
-abbrev pub is_shelf : Limit → Bool
-is_shelf (Shelf space) = true
-is_shelf (Total cap) = false
-is_shelf (Category c cap) = false
-is_shelf (Requires a b) = false
-is_shelf (Ladder l) = false
-
-abbrev pub is_ladder : Limit → Bool
-is_ladder (Ladder l) = true
-is_ladder (Total cap) = false
-is_ladder (Category c cap) = false
-is_ladder (Requires a b) = false
-is_ladder (Shelf space) = false
 
 -- The limit is one of the family.
 abbrev pub is_in_family : Family → Limit → Bool

@@ -51,12 +51,34 @@ Repeats (Shelf space) (Shelf other) = Unit {0}
 Repeats (Ladder l) (Ladder m) = l ≡ m
 Repeats _ _ = ⊥
 
+-- A cap on the number of products, of all or of a category.
+abbrev pub is_cap : Limit → Bool
+is_cap (Total cap) = true
+is_cap (Category c cap) = true
+is_cap (Requires a b) = false
+is_cap (Shelf space) = false
+is_cap (Ladder l) = false
+
 abbrev pub is_requires : Limit → Bool
 is_requires (Requires a b) = true
 is_requires (Total cap) = false
 is_requires (Category c cap) = false
 is_requires (Shelf space) = false
 is_requires (Ladder l) = false
+
+abbrev pub is_shelf : Limit → Bool
+is_shelf (Shelf space) = true
+is_shelf (Total cap) = false
+is_shelf (Category c cap) = false
+is_shelf (Requires a b) = false
+is_shelf (Ladder l) = false
+
+abbrev pub is_ladder : Limit → Bool
+is_ladder (Ladder l) = true
+is_ladder (Total cap) = false
+is_ladder (Category c cap) = false
+is_ladder (Requires a b) = false
+is_ladder (Shelf space) = false
 
 -- revenue is one ratio: logit and generalised attraction
 abbrev pub IsRatioModel : ModelName → Type 0

@@ -1,5 +1,5 @@
 -- Worked values of the definitions, by computation.
-use Rattle.std.specs.Prelude.{◌≡◌, ℕ, Bool, true, false, List, [], ◌∷◌}
+use Rattle.std.specs.Prelude.{◌≡◌, ℕ, Bool, true, false, List, [], ◌∷◌, length, replicate}
 use Rattle.offer_model.specs.declared.products.ModelName.TheVariants.{Logit, Attract, Mixed}
 use Rattle.offer_model.specs.declared.products.Product.{Product}
 use Rattle.offer_model.specs.declared.products.Limit.{Limit}
@@ -15,7 +15,7 @@ plain_product margin = record { margin = margin; category = 0; space = 0; price 
 
 -- one segment of size 1 without shadows
 abbrev pub plain_segment : ℕ → List ℕ → SegmentData
-plain_segment none attract = record { size = 1; none = none; attract = attract; shadow = 0 ∷ 0 ∷ 0 ∷ [] }
+plain_segment none attract = record { size = 1; none = none; attract = attract; shadow = replicate (length attract) 0 }
 
 abbrev pub logit_of : List Product → SegmentData → List Limit → ProblemData
 logit_of products segment limits = record { model = Logit; unit = 1; products = products; segments = segment ∷ []; limits = limits }

@@ -23,7 +23,7 @@ use Rattle.proof_lines.specs.Laws.{IsShort}
 use Rattle.proof_lines.proofs.CallerLemmas.{length-line_text-le}
 
 -- A line of at most 1,024 numbers.
-line_short : (s : Shape) (ns : List ℕ) → IsLine s ns → length ns ≤ 1024 → length (line_text s ns) < 40000
+pub line_short : (s : Shape) (ns : List ℕ) → IsLine s ns → length ns ≤ 1024 → length (line_text s ns) < 40000
 line_short s ns h few = let all = length-line_text-le s ns h in omega arith
 
 -- ---- The numbers of leaves.

@@ -8,10 +8,9 @@ use Rattle.offer_model.specs.declared.node.Mark.TheVariants.{In, Out}
 use Rattle.offer_model.specs.declared.products.ModelName.{ModelName}
 use Rattle.offer_model.specs.declared.products.ModelName.TheVariants.{Logit, Attract, Mixed, Chain}
 use Rattle.offer_model.specs.declared.products.Limit.{Limit}
-use Rattle.offer_model.specs.declared.products.Limit.TheVariants.{Total, Category, Requires, Shelf, Ladder}
 use Rattle.offer_model.specs.Assortments.{offers}
 use Rattle.offer_model.specs.Problems.{ProblemData, product_count}
-use Rattle.offer_model.specs.Validity.{is_requires}
+use Rattle.offer_model.specs.Validity.{is_cap, is_requires, is_shelf, is_ladder}
 use Rattle.offer_model.specs.Best.{IsBest}
 use Rattle.offer_model.specs.Nodes.{open_node, Clashes}
 use Rattle.offer_model.specs.LeafBounds.{priced_limits}
@@ -27,27 +26,6 @@ use Rattle.proof_lines.specs.Closing.{Closes}
 use Rattle.proof_lines.specs.Acceptance.{IsAccepted, IsAcceptedChain}
 
 -- ---- Limits of one kind, under logit and generalised attraction: a path.
-
-abbrev pub is_cap : Limit → Bool
-is_cap (Total cap) = true
-is_cap (Category c cap) = true
-is_cap (Requires a b) = false
-is_cap (Shelf space) = false
-is_cap (Ladder l) = false
-
-abbrev pub is_shelf : Limit → Bool
-is_shelf (Shelf space) = true
-is_shelf (Total cap) = false
-is_shelf (Category c cap) = false
-is_shelf (Requires a b) = false
-is_shelf (Ladder l) = false
-
-abbrev pub is_ladder : Limit → Bool
-is_ladder (Ladder l) = true
-is_ladder (Total cap) = false
-is_ladder (Category c cap) = false
-is_ladder (Requires a b) = false
-is_ladder (Shelf space) = false
 
 -- The leaf whose bound is exact for such limits: multipliers for caps or for requirements, the table for one shelf,
 -- potentials for ladders. None where limits of several kinds stand together.
