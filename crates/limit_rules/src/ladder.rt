@@ -8,7 +8,7 @@ use crate::choice::Choice;
 use offer_model::{Problem, Product};
 
 /// Whether the grades differ and, where the second is the higher, the second price is no lower.
-fn may_stand(a: &Product, b: &Product) -> bool
+pub fn may_stand(a: &Product, b: &Product) -> bool
     ensures { IsTrue result ↔ MayStand a.now b.now }
 {
     if a.grade < b.grade {

@@ -17,4 +17,5 @@ pub use broken::first_broken;
 pub use clash::clashes;
 pub use fill::fill_out;
 pub use kind::{Kind, kind_of};
+pub use ladder::may_stand;
 pub use laws::worked_kinds_hold;

@@ -9,22 +9,24 @@ use Rattle.limit_rules.specs.declared.kind.Kind.{Kind}
 use Rattle.limit_rules.specs.Kinds.{kind_of}
 use Rattle.linear_step.specs.declared.closing.Closing.{Closing}
 use Rattle.linear_step.specs.declared.closing.Closing.TheVariants.{Clash}
-use Rattle.linear_step.specs.Closings.{IsTop, HasBound, HasShape, Closes}
+use Rattle.linear_step.specs.Closings.{IsTop, HasBound, HasShape, HasSmallNumbers, Closes}
 
 -- A clash closes a node that clashes.
 pub Closes-from_clash : (p : ProblemData) (at : Prices) (node : List Mark) → Clashes p node → Closes p at node Clash
 Closes-from_clash p at node c = record {
   shape = tt;
+  small = tt;
   clash = (λ e. c, λ h. refl);
   bound = λ other. absurd (other refl);
 }
 
 -- A closing with the greatest worth as its bound closes a node that doesn't clash.
 pub Closes-from_bound : (p : ProblemData) (at : Prices) (node : List Mark) (closing : Closing) (z : ℤ) → closing ≢ Clash
-    → HasShape (kind_of p.limits) closing → (Clashes p node → ⊥) → HasBound p at node closing z → IsTop p at node z
+    → HasShape (kind_of p.limits) closing → HasSmallNumbers closing → (Clashes p node → ⊥) → HasBound p at node closing z → IsTop p at node z
     → Closes p at node closing
-Closes-from_bound p at node closing z other shape free bound top = record {
+Closes-from_bound p at node closing z other shape small free bound top = record {
   shape = shape;
+  small = small;
   clash = (λ e. absurd (other e), λ c. absurd (free c));
   bound = λ e. (z, bound, top);
 }

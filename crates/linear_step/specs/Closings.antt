@@ -1,5 +1,5 @@
 -- What closes a node: a clash, or a bound that the node's feasible completions reach. Own.
-use Rattle.std.specs.Prelude.{◌≡◌, ◌≢◌, ◌↔◌, ◌⊎◌, Bool, List, Some, pos, ◌<ℤ◌}
+use Rattle.std.specs.Prelude.{◌≡◌, ◌≢◌, ◌↔◌, ◌⊎◌, ℕ, ◌^◌, ◌≤◌, Bool, List, Some, All, pos, ◌<ℤ◌}
 use lib.IntN.{ℤ}
 use Rattle.offer_model.specs.declared.node.Mark.{Mark}
 use Rattle.offer_model.specs.Problems.{ProblemData}
@@ -35,8 +35,19 @@ HasShape K.Shelf C.Shelf = Unit {0}
 HasShape K.Ladder (C.Potentials us) = Unit {0}
 HasShape _ _ = ⊥
 
+-- A number of a closing is at most this: as much as a line of a certificate can say.
+abbrev pub number_bound : ℕ
+number_bound = 2 ^ 108
+
+abbrev pub HasSmallNumbers : Closing → Type 0
+HasSmallNumbers C.Clash = Unit {0}
+HasSmallNumbers (C.Multipliers us) = All (λ u. u ≤ number_bound) us.items
+HasSmallNumbers C.Shelf = Unit {0}
+HasSmallNumbers (C.Potentials us) = All (λ u. u ≤ number_bound) us.items
+
 -- A clash exactly where the node clashes, else a closing whose bound is the greatest worth.
 pub record Closes (p : ProblemData) (at : Prices) (node : List Mark) (closing : Closing) : Type 0 where
   pub shape : HasShape (kind_of p.limits) closing
+  pub small : HasSmallNumbers closing
   pub clash : (closing ≡ C.Clash) ↔ Clashes p node
   pub bound : closing ≢ C.Clash → (z : ℤ) × HasBound p at node closing z × IsTop p at node z

@@ -58,7 +58,7 @@ settled_completes p node y f c = c
 
 -- ---- What a completion is worth.
 
-worth_at : (m : Mark) (b : Bool) (z : ℤ) → Agrees m b → cond b z (pos 0) ≤ℤ most_of m z
+pub worth_at : (m : Mark) (b : Bool) (z : ℤ) → Agrees m b → cond b z (pos 0) ≤ℤ most_of m z
 worth_at In true z a = omega (arith, ints)
 worth_at In false z a = cc
 worth_at Out true z a = cc
@@ -78,7 +78,7 @@ worth_of-le p at node y c =
 -- ---- Clashes.
 
 -- What is In is offered by each completion.
-fill_offered : (node : List Mark) (y : List Bool) → Completes node y → (i : ℕ) → offers (fill_of node) i ≡ true → offers y i ≡ true
+pub fill_offered : (node : List Mark) (y : List Bool) → Completes node y → (i : ℕ) → offers (fill_of node) i ≡ true → offers y i ≡ true
 fill_offered (m ∷ node) (b ∷ y) c (suc i) h = fill_offered node y c.1 i h
 fill_offered (In ∷ node) (b ∷ y) c zero h = c.0
 fill_offered (Out ∷ node) (b ∷ y) c zero h = cc
@@ -86,22 +86,22 @@ fill_offered (Open ∷ node) (b ∷ y) c zero h = cc
 fill_offered [] y c i h = cc
 fill_offered (m ∷ node) [] c i h = absurd c
 
-fewer_here : (a b : Bool) (f : ℕ) → (a ≡ true → b ≡ true) → cond a f 0 ≤ cond b f 0
+pub fewer_here : (a b : Bool) (f : ℕ) → (a ≡ true → b ≡ true) → cond a f 0 ≤ cond b f 0
 fewer_here false b f h = omega arith
 fewer_here true b f h = rw (h refl) (omega arith)
 
 -- An assortment that offers more uses more.
-fewer : (n : ℕ) (a b : ℕ → Bool) (f : ℕ → ℕ) → ((i : ℕ) → a i ≡ true → b i ≡ true)
+pub fewer : (n : ℕ) (a b : ℕ → Bool) (f : ℕ → ℕ) → ((i : ℕ) → a i ≡ true → b i ≡ true)
     → sum_below n (λ i. cond (a i) (f i) 0) ≤ sum_below n (λ i. cond (b i) (f i) 0)
 fewer n a b f h = sum_le n (λ i. cond (a i) (f i) 0) (λ i. cond (b i) (f i) 0) (λ i l. fewer_here (a i) (b i) (f i) (h i))
 
 -- An assortment that offers what another offers breaks the limits that count what is offered, where the other does.
-breaks_too : (p : ProblemData) (x y : List Bool) (f : ℕ → ℕ) (cap : ℕ) → ((i : ℕ) → offers x i ≡ true → offers y i ≡ true)
+pub breaks_too : (p : ProblemData) (x y : List Bool) (f : ℕ → ℕ) (cap : ℕ) → ((i : ℕ) → offers x i ≡ true → offers y i ≡ true)
     → (sum_below (product_count p) (λ i. cond (offers x i) (f i) 0) ≤ cap → ⊥)
     → sum_below (product_count p) (λ i. cond (offers y i) (f i) 0) ≤ cap → ⊥
 breaks_too p x y f cap h k m = let le = fewer (product_count p) (offers x) (offers y) f h in k (omega arith)
 
-clash_at : (p : ProblemData) (node : List Mark) (y : List Bool) (limit : Limit) → Completes (settled_node p node) y → ClashesAt p node limit → Meets p y limit → ⊥
+pub clash_at : (p : ProblemData) (node : List Mark) (y : List Bool) (limit : Limit) → Completes (settled_node p node) y → ClashesAt p node limit → Meets p y limit → ⊥
 clash_at p node y (Requires a b) c k m =
     let e = Completes-agrees (settled_node p node) y c a in
     let o = Completes-agrees (settled_node p node) y c b in

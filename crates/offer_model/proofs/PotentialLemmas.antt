@@ -25,14 +25,14 @@ use Rattle.offer_model.proofs.SumLemmas.{sum_mono}
 abbrev pub sum_where : ℕ → (ℕ → Bool) → (ℕ → ℤ) → ℤ
 sum_where n s f = int_sum_below n (λ i. cond (s i) (f i) (pos 0))
 
-sum_adds : (n : ℕ) (f g h : ℕ → ℤ) → ((i : ℕ) → i < n → f i ≡ g i +ℤ h i) → int_sum_below n f ≡ int_sum_below n g +ℤ int_sum_below n h
+pub sum_adds : (n : ℕ) (f g h : ℕ → ℤ) → ((i : ℕ) → i < n → f i ≡ g i +ℤ h i) → int_sum_below n f ≡ int_sum_below n g +ℤ int_sum_below n h
 sum_adds zero f g h e = omega (arith, ints)
 sum_adds (suc n) f g h e =
     let before = sum_adds n f g h (λ i l. e i (omega arith)) in
     let here = e n (omega arith) in
     omega (arith, ints)
 
-sum_none : (n : ℕ) (s : ℕ → Bool) (f : ℕ → ℤ) → ((i : ℕ) → i < n → s i ≡ true → ⊥) → sum_where n s f ≡ pos 0
+pub sum_none : (n : ℕ) (s : ℕ → Bool) (f : ℕ → ℤ) → ((i : ℕ) → i < n → s i ≡ true → ⊥) → sum_where n s f ≡ pos 0
 sum_none zero s f h = refl
 sum_none (suc n) s f h =
     let before = sum_none n s f (λ i l. h i (omega arith)) in
@@ -43,7 +43,7 @@ sum_none (suc n) s f h =
     none_here true z h = absurd (h refl)
     none_here false z h = refl
 
-sum_single : (n : ℕ) (s : ℕ → Bool) (f : ℕ → ℤ) (i : ℕ) → i < n → s i ≡ true → ((j : ℕ) → j < n → s j ≡ true → j ≡ i) → sum_where n s f ≡ f i
+pub sum_single : (n : ℕ) (s : ℕ → Bool) (f : ℕ → ℤ) (i : ℕ) → i < n → s i ≡ true → ((j : ℕ) → j < n → s j ≡ true → j ≡ i) → sum_where n s f ≡ f i
 sum_single zero s f i l t one = absurd (omega arith)
 sum_single (suc n) s f i l t one = elim (s n) as (λ v. s n ≡ v → sum_where n s f +ℤ cond v (f n) (pos 0) ≡ f i) [
   | true ↦ λ e.
@@ -60,44 +60,44 @@ sum_single (suc n) s f i l t one = elim (s n) as (λ v. s n ≡ v → sum_where 
     last i n l h = omega arith
 
 -- What holds below n and at n holds below n + 1.
-by_last : (P : ℕ → Type 0) (n : ℕ) → ((i : ℕ) → i < n → P i) → P n → (i : ℕ) → i < suc n → P i
+pub by_last : (P : ℕ → Type 0) (n : ℕ) → ((i : ℕ) → i < n → P i) → P n → (i : ℕ) → i < suc n → P i
 by_last P n below here i l = elim (ltb i n) as (λ v. ltb i n ≡ v → P i) [
   | true ↦ λ e. below i (grind (arith, nat_tests))
   | false ↦ λ e. let same : n ≡ i = grind (arith, nat_tests) in subst P same here
 ] refl
 
-find : (n : ℕ) (s : ℕ → Bool) → ((i : ℕ) × (i < n) × (s i ≡ true)) ⊎ ((i : ℕ) → i < n → s i ≡ true → ⊥)
+pub find : (n : ℕ) (s : ℕ → Bool) → ((i : ℕ) × (i < n) × (s i ≡ true)) ⊎ ((i : ℕ) → i < n → s i ≡ true → ⊥)
 find zero s = inr (λ i l t. omega arith)
 find (suc n) s = elim (s n) as (λ v. s n ≡ v → ((i : ℕ) × (i < suc n) × (s i ≡ true)) ⊎ ((i : ℕ) → i < suc n → s i ≡ true → ⊥)) [
   | true ↦ λ e. inl (n, omega arith, e)
   | false ↦ λ e. ⊎_elim (λ f. inl (f.0, omega arith, f.2)) (λ h. inr (by_last (λ i. s i ≡ true → ⊥) n h (λ t. cc))) (find n s)
 ] refl
 
-bounded : (n : ℕ) (f : ℕ → ℕ) → (g : ℕ) × ((i : ℕ) → i < n → f i < g)
+pub bounded : (n : ℕ) (f : ℕ → ℕ) → (g : ℕ) × ((i : ℕ) → i < n → f i < g)
 bounded zero f = (0, λ i l. absurd (omega arith))
 bounded (suc n) f = let b = bounded n f in (max b.0 (f n + 1), by_last (λ i. f i < max b.0 (f n + 1)) n (λ i l. let k = b.1 i l in omega arith) (omega arith))
 
-and_left : (a b : Bool) → (a && b) ≡ true → a ≡ true
+pub and_left : (a b : Bool) → (a && b) ≡ true → a ≡ true
 and_left true b h = refl
 and_left false b h = cc
 
-and_right : (a b : Bool) → (a && b) ≡ true → b ≡ true
+pub and_right : (a b : Bool) → (a && b) ≡ true → b ≡ true
 and_right true b h = h
 and_right false b h = cc
 
-none_from : (b : Bool) (m g : ℕ) → (b && leb m g) ≡ true → g < m → ⊥
+pub none_from : (b : Bool) (m g : ℕ) → (b && leb m g) ≡ true → g < m → ⊥
 none_from true m g t l = grind (arith, nat_tests)
 none_from false m g t l = cc
 
-split : (b : Bool) (m g : ℕ) (z : ℤ) → cond (b && leb m g) z (pos 0) ≡ cond (b && leb (suc m) g) z (pos 0) +ℤ cond (b && eqb g m) z (pos 0)
+pub split : (b : Bool) (m g : ℕ) (z : ℤ) → cond (b && leb m g) z (pos 0) ≡ cond (b && leb (suc m) g) z (pos 0) +ℤ cond (b && eqb g m) z (pos 0)
 split false m g z = refl
 split true m g z = grind (arith, nat_tests, ints)
 
-whole : (b : Bool) (g : ℕ) (z : ℤ) → cond b z (pos 0) ≡ cond (b && leb 0 g) z (pos 0) +ℤ pos 0
+pub whole : (b : Bool) (g : ℕ) (z : ℤ) → cond b z (pos 0) ≡ cond (b && leb 0 g) z (pos 0) +ℤ pos 0
 whole true g z = grind (arith, nat_tests, ints)
 whole false g z = refl
 
-sum_zeros : (n : ℕ) → int_sum_below n (λ i. pos 0) ≡ pos 0
+pub sum_zeros : (n : ℕ) → int_sum_below n (λ i. pos 0) ≡ pos 0
 sum_zeros zero = refl
 sum_zeros (suc n) = let k = sum_zeros n in omega (arith, ints)
 
@@ -179,30 +179,30 @@ module _ (n : ℕ) (s : ℕ → Bool) (price : ℕ → ℤ) (grade cost top : �
 
 -- ---- All ladders.
 
-later : (a b : Bool) → not a ≡ true → cond a true b ≡ true → b ≡ true
+pub later : (a b : Bool) → not a ≡ true → cond a true b ≡ true → b ≡ true
 later true b n t = cc
 later false b n t = t
 
-two : (b e : Bool) (z : ℤ) → cond b z (pos 0) ≡ cond (b && e) z (pos 0) +ℤ cond (b && not e) z (pos 0)
+pub two : (b e : Bool) (z : ℤ) → cond b z (pos 0) ≡ cond (b && e) z (pos 0) +ℤ cond (b && not e) z (pos 0)
 two false e z = refl
 two true true z = omega (arith, ints)
 two true false z = omega (arith, ints)
 
-abbrev is_open : Mark → Bool
+abbrev pub is_open : Mark → Bool
 is_open In = false
 is_open Out = false
 is_open Open = true
 
-is_open-true : (m : Mark) → is_open m ≡ true → m ≡ Open
+pub is_open-true : (m : Mark) → is_open m ≡ true → m ≡ Open
 is_open-true In h = cc
 is_open-true Out h = cc
 is_open-true Open h = refl
 
 -- What a completion adds to the fixed part: offered products that are Open at the node and on limited ladders.
-abbrev chosen : ProblemData → List Mark → List Bool → ℕ → Bool
+abbrev pub chosen : ProblemData → List Mark → List Bool → ℕ → Bool
 chosen p node y i = offers y i && (is_open (settled_mark p node i) && is_limited p.limits (ladder_of p i))
 
-apart_term : (m : Mark) (v limited : Bool) (z : ℤ) → Agrees m v → cond v z (pos 0) ≤ℤ (most_beside m limited z +ℤ cond (v && (is_open m && limited)) z (pos 0))
+pub apart_term : (m : Mark) (v limited : Bool) (z : ℤ) → Agrees m v → cond v z (pos 0) ≤ℤ (most_beside m limited z +ℤ cond (v && (is_open m && limited)) z (pos 0))
 apart_term In true limited z a = omega (arith, ints)
 apart_term In false limited z a = cc
 apart_term Out true limited z a = cc
@@ -214,7 +214,7 @@ apart_term Open false true z a = omega (arith, ints)
 apart_term Open false false (pos n) a = omega (arith, ints)
 apart_term Open false false (negsuc n) a = omega (arith, ints)
 
-top_le : (p : ProblemData) (us : List ℕ) (l n i : ℕ) → i < n → ladder_of p i ≡ l → slice_index us i ≤ ladder_top p us l n
+pub top_le : (p : ProblemData) (us : List ℕ) (l n i : ℕ) → i < n → ladder_of p i ≡ l → slice_index us i ≤ ladder_top p us l n
 top_le p us l zero i h e = absurd (omega arith)
 top_le p us l (suc n) i h e = by_last (λ i. ladder_of p i ≡ l → slice_index us i ≤ ladder_top p us l (suc n)) n
     (λ i h e. let k = top_le p us l n i h e in omega arith)

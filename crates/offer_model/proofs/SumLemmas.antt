@@ -59,11 +59,11 @@ sum_le (suc n) f g h =
     let here = h n (omega arith) in
     omega arith
 
-point_step : (s n a u : ℕ) (b : Bool) → (n ≤ a → s ≡ 0) → s ≤ u → s + cond b (cond (eqb n a) u 0) 0 ≤ u
+pub point_step : (s n a u : ℕ) (b : Bool) → (n ≤ a → s ≡ 0) → s ≤ u → s + cond b (cond (eqb n a) u 0) 0 ≤ u
 point_step s n a u true h k = grind (arith, nat_tests)
 point_step s n a u false h k = omega arith
 
-point_none : (n : ℕ) (y : ℕ → Bool) (u a : ℕ) → n ≤ a → point n y u a ≡ 0
+pub point_none : (n : ℕ) (y : ℕ → Bool) (u a : ℕ) → n ≤ a → point n y u a ≡ 0
 point_none zero y u a l = refl
 point_none (suc n) y u a l =
     let before = point_none n y u a (omega arith) in

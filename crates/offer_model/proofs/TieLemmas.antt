@@ -14,7 +14,7 @@ IsBefore-asym (true ∷ x) (true ∷ y) h k = IsBefore-asym x y h k
 IsBefore-asym (false ∷ x) (false ∷ y) h k = IsBefore-asym x y h k
 
 -- One more product that both treat alike keeps them equal or in order.
-further : (b : Bool) (x y : List Bool) → ((y ≡ x) ⊎ IsBefore x y) → ((b ∷ y ≡ b ∷ x) ⊎ IsBefore (b ∷ x) (b ∷ y))
+pub further : (b : Bool) (x y : List Bool) → ((y ≡ x) ⊎ IsBefore x y) → ((b ∷ y ≡ b ∷ x) ⊎ IsBefore (b ∷ x) (b ∷ y))
 further true x y (inl e) = inl (ap (λ z. true ∷ z) e)
 further true x y (inr h) = inr h
 further false x y (inl e) = inl (ap (λ z. false ∷ z) e)

@@ -14,7 +14,7 @@ use Rattle.offer_model.proofs.SumLemmas.{sum_le}
 use Rattle.std.proofs.Math.Nat.{div-lt_iff_lt-mul}
 
 -- Product by product: what is offered, and the shadows of all.
-sums_at : (n : ℕ) (y : ℕ → Bool) (r v w : ℕ → ℕ) (num den : ℕ)
+pub sums_at : (n : ℕ) (y : ℕ → Bool) (r v w : ℕ → ℕ) (num den : ℕ)
     → int_sum_below n (λ i. cond (y i) (pos (den * (r i * v i) + num * w i) -ℤ pos (num * v i)) (pos 0)) +ℤ pos (num * sum_below n (λ i. cond (y i) (v i) (w i)))
     ≡ pos (den * sum_below n (λ i. cond (y i) (r i * v i) 0)) +ℤ pos (num * sum_below n (λ i. w i))
 sums_at zero y r v w num den = omega (arith, ints)
@@ -33,7 +33,7 @@ worth_is p num den y =
     omega (arith, ints)
 
 -- The same for one segment, where what isn't offered weighs nothing or more.
-sums_above : (n : ℕ) (y : ℕ → Bool) (r v w : ℕ → ℕ) (c u : ℕ)
+pub sums_above : (n : ℕ) (y : ℕ → Bool) (r v w : ℕ → ℕ) (c u : ℕ)
     → pos (c * sum_below n (λ i. cond (y i) (r i * v i) 0))
     ≤ℤ (int_sum_below n (λ i. cond (y i) (pos (c * (r i * v i)) -ℤ pos (u * v i)) (pos 0)) +ℤ pos (u * sum_below n (λ i. cond (y i) (v i) (w i))))
 sums_above zero y r v w c u = omega (arith, ints)
@@ -44,13 +44,13 @@ sums_above (suc n) y r v w c u =
     +ℤ pos (u * (sum_below n (λ i. cond (y i) (v i) (w i)) + cond b (v n) (w n)))))
     [ true ↦ omega (arith, ints) | false ↦ omega (arith, ints) ]
 
-quotient_le : (a u w : ℕ) → a < (u + 1) * w → a / w ≤ u
+pub quotient_le : (a u w : ℕ) → a < (u + 1) * w → a / w ≤ u
 quotient_le a u zero h = absurd (omega arith)
 quotient_le a u (suc w) h =
     let lt : a / suc w < u + 1 = (div-lt_iff_lt-mul {k = suc w} {x = a} {y = u + 1} (omega arith)).1 h in
     omega arith
 
-segment_below : (p : ProblemData) (g : SegmentData) (u : ℕ) (node : List Mark) (y : List Bool) → Completes node y
+pub segment_below : (p : ProblemData) (g : SegmentData) (u : ℕ) (node : List Mark) (y : List Bool) → Completes node y
     → greatest_worth p node (prices_above p g u) <ℤ pos 0 → g.size * p.unit * gain_of p g y / weight_of p g y ≤ u
 segment_below p g u node y c h =
     let e = sums_above (product_count p) (offers y) (margin_of p) (attraction_of g) (shadow_of g) (g.size * p.unit) (u + 1) in

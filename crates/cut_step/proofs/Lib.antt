@@ -1,0 +1,16 @@
+pub mod TotalLemmas
+pub mod CertificateLemmas
+pub mod MoveLemmas
+pub mod PushLemmas
+pub mod GrowthLemmas
+pub mod FallLemmas
+pub mod StartLemmas
+pub mod ForcedLemmas
+pub mod PathLemmas
+pub mod FundedLemmas
+pub mod PayLemmas
+pub mod ClosingLemmas
+pub mod ProblemLemmas
+pub mod CloserLemmas
+pub mod SizeLemmas
+pub mod WorkedLemmas

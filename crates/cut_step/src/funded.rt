@@ -1,0 +1,84 @@
+ghost use Rattle.std.specs.Prelude.{◌≡◌, ℕ, ◌<◌, ◌≤◌, ◌^◌, List, length, slice_index};
+ghost use lib.IntN.{ℤ};
+ghost use Rattle.cut_step.specs.Closures.{AreNamed};
+ghost use Rattle.cut_step.specs.Flows.{AreWithin};
+ghost use Rattle.cut_step.specs.Sizes.{FitTogether};
+ghost use Rattle.cut_step.specs.Phases.{IsUnderway, IsBegun, IsSolved};
+
+use crate::flow::Flow;
+use crate::phase::{Phase, giving_at, lacking_at};
+use crate::push::{augment, portion};
+use crate::reach::{Reach, Spot, is_seen};
+use crate::rows::Row;
+use crate::search::search;
+use offer_model::Node;
+
+/// Carries what the two products of row `k` can give and take over the row alone.
+fn pay_at(rows: &[Row], node: &Node, k: usize, spots: &[Spot], flow: &mut Flow)
+    requires row { k < length rows.now }
+    requires names { AreNamed rows.now (length flow.old.left.items) }
+    requires each { length flow.old.amounts.items ≡ length rows.now }
+    requires node { length node.now ≡ length flow.old.left.items }
+    requires spots { length spots.now ≡ length flow.old.left.items }
+    requires within { AreWithin flow.old.left.items (2 ^ 119) }
+    requires room { (k : ℕ) → slice_index flow.old.amounts.items k ≤ 2 ^ 109 }
+    ensures underway { (w : List ℤ) → IsUnderway rows.now node.now w flow.old.left.items flow.old.amounts.items spots.now
+        → IsUnderway rows.now node.now w flow.new.left.items flow.new.amounts.items spots.now }
+    ensures each { length flow.new.amounts.items ≡ length flow.old.amounts.items }
+    ensures left { length flow.new.left.items ≡ length flow.old.left.items }
+{
+    let row = rows[k];
+    if is_seen(spots[row.first]) || is_seen(spots[row.second]) {
+        return;
+    }
+    let has = giving_at(Phase::Funded, node, flow, row.first);
+    if has == 0 {
+        return;
+    }
+    let need = lacking_at(node, flow, row.second);
+    if need == 0 {
+        return;
+    }
+    let d = portion(has, need);
+    flow.carry_over(row, k, false, d);
+}
+
+/// Carries what it can over each row alone, before any search.
+fn pay(rows: &[Row], node: &Node, spots: &[Spot], flow: &mut Flow)
+    requires names { AreNamed rows.now (length node.now) }
+    requires spots { length spots.now ≡ length node.now }
+    requires left { length flow.old.left.items ≡ length node.now }
+    requires underway { (w : List ℤ) × IsUnderway rows.now node.now w flow.old.left.items flow.old.amounts.items spots.now }
+    ensures underway { (w : List ℤ) → IsUnderway rows.now node.now w flow.old.left.items flow.old.amounts.items spots.now
+        → IsUnderway rows.now node.now w flow.new.left.items flow.new.amounts.items spots.now }
+    ensures each { length flow.new.amounts.items ≡ length flow.old.amounts.items }
+    ensures left { length flow.new.left.items ≡ length flow.old.left.items }
+{
+    for k in 0..rows.len() {
+        pay_at(rows, node, k, spots, flow);
+    }
+}
+
+/// The second phase: carries amounts along augmenting paths, from Open products with something left to those that lack
+/// something and to what is Out, until there is no such path. What the last search saw is then the near side of a least
+/// cut. The prices are those with which the first phase began.
+pub fn settle(rows: &[Row], node: &Node, flow: &mut Flow, reach: &mut Reach)
+    requires lists { FitTogether rows.now node.now flow.old reach.old }
+    requires begun { (w : List ℤ) × IsBegun rows.now node.now w flow.old.left.items flow.old.amounts.items
+        reach.old.spots.items reach.old.tree.items }
+    ensures solved { (w : List ℤ) → IsBegun rows.now node.now w flow.old.left.items flow.old.amounts.items
+        reach.old.spots.items reach.old.tree.items
+        → IsSolved rows.now node.now w flow.new.left.items flow.new.amounts.items reach.new.spots.items }
+    ensures lists { FitTogether rows.now node.now flow.new reach.new }
+{
+    pay(rows, node, &reach.spots, flow);
+    'paths: loop {
+        match search(rows, node, Phase::Funded, flow, reach) {
+            None => return,
+            Some(place) => {
+                augment(rows, node, &reach.tree, place, flow);
+                reach.forget();
+            }
+        }
+    }
+}

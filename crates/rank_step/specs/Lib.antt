@@ -1,0 +1,8 @@
+pub mod Free
+pub mod Caps
+pub mod Rooms
+pub mod Candidates
+pub mod Greedy
+pub mod Multipliers
+pub mod Fits
+pub mod WorkedCaps

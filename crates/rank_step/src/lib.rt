@@ -1,0 +1,15 @@
+//! Steps by rank: without limits, and under caps in all and by category.
+#![tactic(auto)]
+
+mod candidates;
+mod caps;
+mod free;
+mod greedy;
+mod multipliers;
+mod places;
+mod rooms;
+#[cfg(test)]
+mod tests;
+
+pub use caps::CapsStep;
+pub use free::FreeStep;

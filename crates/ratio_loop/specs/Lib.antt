@@ -1,0 +1,3 @@
+pub mod Earnings
+pub mod Trials
+pub mod Ties

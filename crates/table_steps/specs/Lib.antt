@@ -1,0 +1,8 @@
+pub mod ShelfFits
+pub mod ShelfReading
+pub mod LadderRungs
+pub mod LadderNumbers
+pub mod LadderChoices
+pub mod LadderFits
+pub mod WorkedShelf
+pub mod WorkedLadders
