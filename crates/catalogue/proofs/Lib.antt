@@ -1,7 +1,12 @@
-pub mod CallerLemmas
 pub mod CatalogueProblemLemmas
-pub mod FieldLemmas
-pub mod GivenRowLemmas
-pub mod GivenRowsLemmas
-pub mod PlainTableLemmas
-pub mod RecordCountLemmas
+mod PrintedTextLemmas
+mod ReadBackLemmas
+pub mod CellLemmas
+pub mod FaultLemmas
+pub mod LentNameLemmas
+pub mod LimitLemmas
+pub mod LimitNameLemmas
+pub mod OneKindLemmas
+pub mod NameLemmas
+pub mod OutcomeLemmas
+pub mod ProductLemmas

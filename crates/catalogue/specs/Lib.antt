@@ -1,7 +1,10 @@
 pub mod Names
 pub mod Rows
-pub mod Records
-pub mod PlainTables
+pub mod Cells
 pub mod Faults
+pub mod ProductTables
+pub mod LimitTables
+pub mod ProductCells
 pub mod SegmentTables
 pub mod CatalogueProblems
+pub mod PrintedProducts

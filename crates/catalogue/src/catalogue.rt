@@ -12,10 +12,14 @@ pub struct Row {
     pub attraction: u64,
     pub shadow: u64,
     pub arrival: u64,
+    /// The name of its category, empty where it has none.
+    pub category: String,
+    /// The name of its price ladder, empty where it has none.
+    pub ladder: String,
 }
 
 impl Model for Row {
-    ghost use Rattle.std.specs.Prelude.{[], string_bytes};
+    ghost use Rattle.std.specs.Prelude.{string_bytes};
     ghost use Rattle.catalogue.specs.Rows.{RowData};
 
     ghost Value = { RowData };
@@ -26,8 +30,8 @@ impl Model for Row {
       attraction = r.attraction;
       shadow = r.shadow;
       arrival = r.arrival;
-      category = [];
-      ladder = [];
+      category = string_bytes r.category;
+      ladder = string_bytes r.ladder;
     } };
 }
 
@@ -56,6 +60,14 @@ impl Catalogue {
         Catalogue { rows }
     }
 
+    /// The rows, for the crate's own use.
+    pub(crate) fn rows(&self) -> &[Row]
+        ensures value { result.now ≡ self.now }
+        ensures valid { IsCatalogue self.now }
+    {
+        &self.rows
+    }
+
     /// The number of products.
     pub fn len(&self) -> usize
         ensures value { result ≡ length self.now }
@@ -72,6 +84,26 @@ impl Catalogue {
     {
         let row = &self.rows[i];
         row.name.as_str()
+    }
+
+    /// The name of the category of product `i`, empty where it has none.
+    pub fn category(&self, i: usize) -> &str
+        requires { i < length self.now }
+        ensures value { result.now ≡ (row_at self.now i).category }
+        ensures valid { IsCatalogue self.now }
+    {
+        let row = &self.rows[i];
+        row.category.as_str()
+    }
+
+    /// The name of the price ladder of product `i`, empty where it has none.
+    pub fn ladder(&self, i: usize) -> &str
+        requires { i < length self.now }
+        ensures value { result.now ≡ (row_at self.now i).ladder }
+        ensures valid { IsCatalogue self.now }
+    {
+        let row = &self.rows[i];
+        row.ladder.as_str()
     }
 
     /// What the limits and the revenue read of product `i`.

@@ -2,18 +2,40 @@
 #![tactic(auto)]
 
 mod catalogue;
+mod cells;
+#[cfg(test)]
+mod fault_tests;
 mod faults;
+mod limit_columns;
+mod limit_kinds;
+mod limit_names;
+mod limit_rows;
+#[cfg(test)]
+mod limit_tests;
+mod limits;
+mod name_set;
 mod names;
-mod plain;
+mod printing;
+#[cfg(test)]
+mod printing_tests;
 mod problems;
-mod records;
+mod product_cells;
+mod product_columns;
+mod products;
 mod segment_table;
+mod table_faults;
 #[cfg(test)]
 mod tests;
 
 pub use catalogue::Catalogue;
 pub use faults::{Code, FileName, InputFault};
+pub use limit_columns::{FIRST, KIND, NUMBER, SECOND};
+pub use limits::read_limits;
 pub use names::MOST_NAME;
-pub use plain::{MOST_TABLE, read_products};
+pub use printing::print_products;
 pub use problems::problem_of;
+pub use product_columns::{
+    ARRIVAL, ATTRACTION, CATEGORY, GRADE, LADDER, MARGIN, NAME, PRICE, SHADOW, SPACE,
+};
+pub use products::{MOST_TABLE, read_products};
 pub use segment_table::SegmentTable;

@@ -1,5 +1,5 @@
 mod FieldLemmas
 mod HeaderLemmas
-mod PositionLemmas
+pub mod PositionLemmas
 mod RecordCountLemmas
 mod TableLemmas

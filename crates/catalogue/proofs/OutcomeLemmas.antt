@@ -1,0 +1,55 @@
+-- What a products file gives, from what its table and its rows gave.
+use Rattle.std.proofs.Common.{◌≡◌, ◌∙◌, sym, ap, refl, ℕ, Bool, List, length, Some, None, Ok, Err}
+use Rattle.offer_model.specs.declared.products.ModelName.{ModelName}
+use Rattle.offer_model.specs.declared.products.ModelName.TheVariants.{Attract}
+use Rattle.table_reader.specs.Records.{records_of}
+use Rattle.table_reader.specs.Tables.{TableData}
+use Rattle.table_reader.specs.TableFaults.{table_outcome}
+use Rattle.catalogue.specs.declared.faults.Code.{Code}
+use Rattle.catalogue.specs.declared.faults.FileName.TheVariants.{Products}
+use Rattle.catalogue.specs.declared.faults.InputFault.{InputFault}
+use Rattle.catalogue.specs.declared.faults.InputFault.TheVariants.{Fault, NoMemory}
+use Rattle.catalogue.specs.CatalogueProblems.{KeepsShadows}
+use Rattle.catalogue.specs.Rows.{RowData, IsCatalogue}
+use Rattle.catalogue.specs.Faults.{OnFault, first_row_fault}
+use Rattle.catalogue.specs.ProductTables.{product_columns, needed_columns, product_fault, product_rows, arrival_fault, products_outcome}
+use Rattle.catalogue.proofs.FaultLemmas.{row_is_clean}
+use Rattle.catalogue.proofs.ProductLemmas.{is_catalogue, keeps_shadows}
+
+pub table_made : (model : ModelName) (bytes : List ℕ) (table : TableData) (names : List (List ℕ)) (needed : List Bool) → names ≡ product_columns
+    → needed ≡ needed_columns model → table_outcome names needed (records_of bytes) ≡ Ok table
+    → table_outcome product_columns (needed_columns model) (records_of bytes) ≡ Ok table
+table_made model bytes table names needed are which made =
+    ap (λ ns. table_outcome ns (needed_columns model) (records_of bytes)) (sym are)
+    ∙ ap (λ ds. table_outcome names ds (records_of bytes)) (sym which) ∙ made
+
+module _ (model : ModelName) (bytes : List ℕ) (table : TableData)
+    (made : table_outcome product_columns (needed_columns model) (records_of bytes) ≡ Ok table) where
+  -- The first fault of a row is the file's.
+  pub row_fault_stands : (e : InputFault)
+      → OnFault e (first_row_fault Products (product_fault model table) 0 (length table.records) ≡ Some e)
+      → OnFault e (products_outcome model bytes ≡ Err e)
+  row_fault_stands (Fault file row code) first = rw (made, first) refl
+  row_fault_stands NoMemory first = tt
+
+  module _ (clean : first_row_fault Products (product_fault model table) 0 (length table.records) ≡ None) (rows : List RowData) (read : rows ≡ product_rows table) where
+    -- Else that nobody arrives.
+    pub arrival_fault_stands : (code : Code) → arrival_fault model rows ≡ Some code → products_outcome model bytes ≡ Err (Fault Products 1 code)
+    arrival_fault_stands code found =
+        let nobody : arrival_fault model (product_rows table) ≡ Some code = rw (← read) found in
+        rw (made, clean, nobody) refl
+
+    -- Else the file gives the rows.
+    pub rows_stand : arrival_fault model rows ≡ None → products_outcome model bytes ≡ Ok rows
+    rows_stand none =
+        let somebody : arrival_fault model (product_rows table) ≡ None = rw (← read) none in
+        rw (read, made, clean, somebody) refl
+
+    -- They are a catalogue, and keep their shadows.
+    pub rows_are_catalogue : IsCatalogue rows
+    rows_are_catalogue =
+        rw read (is_catalogue table model (λ k inside. row_is_clean Products (product_fault model table) (length table.records) k clean inside))
+
+    pub rows_keep_shadows : model ≡ Attract → KeepsShadows rows
+    rows_keep_shadows e =
+        rw read (keeps_shadows table model (λ k inside. row_is_clean Products (product_fault model table) (length table.records) k clean inside) e)

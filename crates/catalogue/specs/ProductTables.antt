@@ -1,0 +1,127 @@
+-- A products file: its columns, its rows and its first fault. Own.
+use Rattle.std.specs.Prelude.{ℕ, ◌==◌, Bool, true, false, List, [], ◌∷◌, length, map, take, slice_index_or, sum_by, codes, Option, Some, None, option_map, Result, Ok, Err, nat_lt, if◌then◌else◌}
+use Rattle.std.specs.List.{range_with_len}
+use Rattle.std.specs.Option.{option_or}
+use Rattle.offer_model.specs.declared.products.ModelName.{ModelName}
+use Rattle.offer_model.specs.declared.products.ModelName.TheVariants.{Logit, Attract, Mixed, Chain}
+use Rattle.offer_model.specs.declared.ranges.TheConstants.{MOST_PRODUCTS, MOST_AMOUNT, MOST_COUNT}
+use Rattle.table_reader.specs.declared.faults.TableFault.{TableFault}
+use Rattle.table_reader.specs.Records.{records_of}
+use Rattle.table_reader.specs.Tables.{TableData, is_among}
+use Rattle.table_reader.specs.TableFaults.{table_outcome}
+use Rattle.catalogue.specs.declared.product_columns.TheConstants.{NAME, MARGIN, ATTRACTION, SHADOW, CATEGORY, SPACE, PRICE, LADDER, GRADE, ARRIVAL}
+use Rattle.catalogue.specs.declared.faults.Code.{Code}
+use Rattle.catalogue.specs.declared.faults.Code.TheVariants.{RepeatedName, ShadowAbove, TooManyProducts, NoArrivals}
+use Rattle.catalogue.specs.declared.faults.FileName.TheVariants.{Products}
+use Rattle.catalogue.specs.declared.faults.InputFault.{InputFault}
+use Rattle.catalogue.specs.declared.faults.InputFault.TheVariants.{Fault}
+use Rattle.catalogue.specs.Names.{number_in}
+use Rattle.catalogue.specs.Cells.{texts_of, text_of, written_number, number_fault, name_fault, fault_unless_empty}
+use Rattle.catalogue.specs.Faults.{fault_of_table, first_of, first_row_fault, unless_fault}
+use Rattle.catalogue.specs.Rows.{RowData}
+
+-- The names of the columns.
+abbrev pub product_columns : List (List ℕ)
+product_columns =
+    codes "name" ∷ codes "margin" ∷ codes "attraction" ∷ codes "shadow" ∷ codes "category"
+    ∷ codes "space" ∷ codes "price" ∷ codes "ladder" ∷ codes "grade" ∷ codes "arrival" ∷ []
+
+-- Which of them a model needs: the name and the margin, attractions where revenue is one ratio, arrivals under a chain.
+abbrev pub needed_columns : ModelName → List Bool
+needed_columns Logit = true ∷ true ∷ true ∷ false ∷ false ∷ false ∷ false ∷ false ∷ false ∷ false ∷ []
+needed_columns Attract = true ∷ true ∷ true ∷ false ∷ false ∷ false ∷ false ∷ false ∷ false ∷ false ∷ []
+needed_columns Mixed = true ∷ true ∷ false ∷ false ∷ false ∷ false ∷ false ∷ false ∷ false ∷ false ∷ []
+needed_columns Chain = true ∷ true ∷ false ∷ false ∷ false ∷ false ∷ false ∷ false ∷ false ∷ true ∷ []
+
+abbrev pub is_needed : ModelName → ℕ → Bool
+is_needed model c = slice_index_or (needed_columns model) c false
+
+-- There is no place for data row k.
+abbrev pub count_fault : ℕ → Option Code
+count_fault k = if nat_lt k MOST_PRODUCTS then None else Some TooManyProducts
+
+-- An earlier row has the name of data row k.
+abbrev pub repeat_fault : TableData → ℕ → Option Code
+repeat_fault table k =
+    if is_among (text_of table k NAME) (take k (texts_of table NAME)) then Some RepeatedName else None
+
+-- What is wrong with a number of data row k, from 0 to `most`.
+abbrev pub amount_fault : ModelName → TableData → ℕ → ℕ → ℕ → Option Code
+amount_fault model table k c most =
+    fault_unless_empty (is_needed model c) (number_fault 0 most) (text_of table k c)
+
+-- What is wrong with the category or the ladder of data row k.
+abbrev pub group_fault : TableData → ℕ → ℕ → Option Code
+group_fault table k c = fault_unless_empty false name_fault (text_of table k c)
+
+-- Under generalised attraction the shadow of data row k is above its attraction.
+abbrev pub shadow_fault : ModelName → TableData → ℕ → Option Code
+shadow_fault Attract table k =
+    if nat_lt (written_number (text_of table k ATTRACTION)) (written_number (text_of table k SHADOW)) then Some ShadowAbove
+    else None
+shadow_fault Logit table k = None
+shadow_fault Mixed table k = None
+shadow_fault Chain table k = None
+
+-- What is wrong with data row k: first its number, then its columns in their order, then its shadow.
+abbrev pub product_fault : ModelName → TableData → ℕ → Option Code
+product_fault model table k = first_of (
+    count_fault k
+    ∷ name_fault (text_of table k NAME)
+    ∷ repeat_fault table k
+    ∷ amount_fault model table k MARGIN MOST_AMOUNT
+    ∷ amount_fault model table k ATTRACTION MOST_AMOUNT
+    ∷ amount_fault model table k SHADOW MOST_AMOUNT
+    ∷ group_fault table k CATEGORY
+    ∷ amount_fault model table k SPACE MOST_COUNT
+    ∷ amount_fault model table k PRICE MOST_AMOUNT
+    ∷ group_fault table k LADDER
+    ∷ amount_fault model table k GRADE MOST_COUNT
+    ∷ amount_fault model table k ARRIVAL MOST_AMOUNT
+    ∷ shadow_fault model table k
+    ∷ [])
+
+-- The row of data row k. An empty text of a number is 0. Categories and ladders are numbered in order of first appearance.
+abbrev pub product_row : TableData → ℕ → RowData
+product_row table k = record {
+  name = text_of table k NAME;
+  product = record {
+    margin = written_number (text_of table k MARGIN);
+    category = number_in (texts_of table CATEGORY) (text_of table k CATEGORY);
+    space = written_number (text_of table k SPACE);
+    price = written_number (text_of table k PRICE);
+    ladder = number_in (texts_of table LADDER) (text_of table k LADDER);
+    grade = written_number (text_of table k GRADE);
+  };
+  attraction = written_number (text_of table k ATTRACTION);
+  shadow = written_number (text_of table k SHADOW);
+  arrival = written_number (text_of table k ARRIVAL);
+  category = text_of table k CATEGORY;
+  ladder = text_of table k LADDER;
+}
+
+abbrev pub product_rows : TableData → List RowData
+product_rows table = map (product_row table) (range_with_len 0 (length table.records))
+
+-- Under a chain nobody arrives.
+abbrev pub arrival_fault : ModelName → List RowData → Option Code
+arrival_fault Chain rows = if sum_by (λ row. row.arrival) rows == 0 then Some NoArrivals else None
+arrival_fault Logit rows = None
+arrival_fault Attract rows = None
+arrival_fault Mixed rows = None
+
+-- The first fault of a table: one of its rows, else that nobody arrives.
+abbrev pub products_fault : ModelName → TableData → Option InputFault
+products_fault model table = option_or
+    (first_row_fault Products (product_fault model table) 0 (length table.records))
+    (option_map (Fault Products 1) (arrival_fault model (product_rows table)))
+
+-- What a table gives: its rows, or its first fault.
+abbrev pub products_in : ModelName → Result TableData TableFault → Result (List RowData) InputFault
+products_in model (Err fault) = Err (fault_of_table Products fault)
+products_in model (Ok table) = unless_fault (products_fault model table) (product_rows table)
+
+-- What the bytes of a products file give: the rows of a catalogue, or the first fault.
+abbrev pub products_outcome : ModelName → List ℕ → Result (List RowData) InputFault
+products_outcome model bytes =
+    products_in model (table_outcome product_columns (needed_columns model) (records_of bytes))

@@ -1,0 +1,87 @@
+ghost use Rattle.std.specs.Prelude.{◌≡◌, ℕ, ◌≤◌, length, Ok, Err, Some, None, IfOk, IfErr, OnOk};
+ghost use Rattle.offer_model.specs.declared.products.ModelName.{ModelName};
+ghost use Rattle.offer_model.specs.Validity.{HasLimits, is_requires};
+ghost use Rattle.catalogue.specs.declared.faults.FileName.TheVariants as file;
+ghost use Rattle.catalogue.specs.CatalogueProblems.{problem_data_of};
+ghost use Rattle.catalogue.specs.Faults.{OnFault, first_row_fault};
+ghost use Rattle.catalogue.specs.Rows.{HasNumbers};
+ghost use Rattle.catalogue.specs.LimitTables.{limit_columns, limit_fault, limits_before, limits_outcome, AreOneKind};
+
+use crate::catalogue::{Catalogue, Row};
+use crate::faults::{FileName, InputFault};
+use crate::limit_columns::LIMIT_COLUMNS;
+use crate::limit_rows::read_limit;
+use crate::products::MOST_TABLE;
+use crate::table_faults::fault_of_table;
+use offer_model::{Limit, Limits, MOST_LIMITS, NoMemory, Texts};
+use std::alloc::Global;
+use table_reader::{Table, read_table};
+
+/// The names of the columns.
+fn limit_columns(alloc: Global) -> Result<Texts, NoMemory>
+    ensures { IfOk result (λ names. names ≡ limit_columns) }
+{
+    let mut names = Texts::new(alloc);
+    names.push("kind")?;
+    names.push("first")?;
+    names.push("second")?;
+    names.push("number")?;
+    Ok(names)
+}
+
+fn is_requires(limit: Limit) -> bool
+    ensures { result ≡ is_requires limit }
+{
+    matches!(limit, Limit::Requires(_, _))
+}
+
+/// The limits that the rows of a table state, or the first fault of one.
+fn read_rows(
+    alloc: Global,
+    table: &Table<LIMIT_COLUMNS>,
+    rows: &[Row],
+) -> Result<Limits, InputFault>
+    requires { HasNumbers rows.now }
+    ensures limits { IfOk result (λ limits. limits.items ≡ limits_before rows.now table.now (length table.now.records)) }
+    ensures sound { OnOk result
+        (first_row_fault file.Limits (limit_fault rows.now table.now) 0 (length table.now.records) ≡ None) }
+    ensures fault { IfErr result (λ e. OnFault e
+        (first_row_fault file.Limits (limit_fault rows.now table.now) 0 (length table.now.records) ≡ Some e)) }
+{
+    let mut limits = Limits::new(alloc);
+    limits.reserve(table.rows().min(MOST_LIMITS))?;
+    let mut pairs = 0;
+    'rows: for k in 0..table.rows() {
+        let limit = match read_limit(table, k, rows, &limits, pairs) {
+            Ok(limit) => limit,
+            Err(code) => {
+                return Err(InputFault::Fault {
+                    file: FileName::Limits,
+                    row: k + 2,
+                    code,
+                });
+            }
+        };
+        if is_requires(limit) {
+            pairs += 1;
+        }
+        limits.push(limit);
+    }
+    Ok(limits)
+}
+
+/// The limits in the bytes of a limits file over a catalogue, in file order, or the first fault.
+pub fn read_limits(alloc: Global, bytes: &[u8], c: &Catalogue) -> Result<Limits, InputFault>
+    requires { length bytes.now ≤ MOST_TABLE }
+    ensures limits { IfOk result (λ limits. limits_outcome c.now bytes.now ≡ Ok limits.items) }
+    ensures fits { IfOk result (λ limits. (model : ModelName) (none unit : ℕ) → HasLimits (problem_data_of c.now model none unit limits.items)) }
+    ensures single { IfOk result (λ limits. AreOneKind limits.items) }
+    ensures fault { IfErr result (λ e. OnFault e (limits_outcome c.now bytes.now ≡ Err e)) }
+{
+    let names = limit_columns(alloc)?;
+    let table = match read_table::<LIMIT_COLUMNS>(alloc, bytes, &names, &[true; LIMIT_COLUMNS]) {
+        Ok(table) => table,
+        Err(fault) => return Err(fault_of_table(FileName::Limits, fault)),
+    };
+    read_rows(alloc, &table, c.rows())
+}

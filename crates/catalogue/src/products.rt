@@ -1,0 +1,116 @@
+ghost use Rattle.std.specs.Prelude.{◌≡◌, ◌≤◌, ◌==◌, length, sum_by, Ok, Err, IfOk, IfErr, OnOk, Some, None};
+ghost use Rattle.offer_model.specs.declared.ranges.TheConstants.{MOST_PRODUCTS};
+ghost use Rattle.catalogue.specs.CatalogueProblems.{KeepsShadows};
+ghost use Rattle.catalogue.specs.declared.faults.FileName.TheVariants as file;
+ghost use Rattle.catalogue.specs.Faults.{OnFault, first_row_fault};
+ghost use Rattle.catalogue.specs.ProductTables.{product_columns, product_fault, product_rows, arrival_fault, products_outcome};
+
+use crate::catalogue::{Catalogue, Row};
+use crate::faults::{Code, FileName, InputFault};
+use crate::name_set::NameSet;
+use crate::product_cells::{needed_columns, read_cells};
+use crate::product_columns::PRODUCT_COLUMNS;
+use crate::table_faults::fault_of_table;
+use offer_model::{ModelName, NoMemory, Texts};
+use std::alloc::Global;
+use table_reader::{Table, read_table};
+
+/// The most bytes of a table file.
+pub const MOST_TABLE: usize = 16_777_216;
+
+/// The names of the columns.
+fn product_columns(alloc: Global) -> Result<Texts, NoMemory>
+    ensures { IfOk result (λ names. names ≡ product_columns) }
+{
+    let mut names = Texts::new(alloc);
+    names.push("name")?;
+    names.push("margin")?;
+    names.push("attraction")?;
+    names.push("shadow")?;
+    names.push("category")?;
+    names.push("space")?;
+    names.push("price")?;
+    names.push("ladder")?;
+    names.push("grade")?;
+    names.push("arrival")?;
+    Ok(names)
+}
+
+/// The rows of a table, or the first fault of one.
+fn read_rows(
+    alloc: Global,
+    table: &Table<PRODUCT_COLUMNS>,
+    model: ModelName,
+) -> Result<Vec<Row>, InputFault>
+    ensures rows { IfOk result (λ rows. rows.items ≡ product_rows table.now) }
+    ensures sound { OnOk result
+        (first_row_fault file.Products (product_fault model table.now) 0 (length table.now.records) ≡ None) }
+    ensures fault { IfErr result (λ e. OnFault e
+        (first_row_fault file.Products (product_fault model table.now) 0 (length table.now.records) ≡ Some e)) }
+{
+    let mut names = NameSet::new(alloc);
+    let mut categories = NameSet::new(alloc);
+    let mut ladders = NameSet::new(alloc);
+    let mut rows = Vec::new(alloc);
+    'rows: for k in 0..table.rows() {
+        let cells = match read_cells(table, k, model, &names) {
+            Ok(cells) => cells,
+            Err(code) => {
+                return Err(InputFault::Fault {
+                    file: FileName::Products,
+                    row: k + 2,
+                    code,
+                });
+            }
+        };
+        names.insert(cells.name.as_bytes())?;
+        let category = categories.number(cells.category.as_bytes())?;
+        let ladder = ladders.number(cells.ladder.as_bytes())?;
+        rows.push(cells.to_row(alloc, category, ladder)?)?;
+    }
+    Ok(rows)
+}
+
+fn nobody_arrives(rows: &[Row]) -> bool
+    ensures { result ≡ (sum_by (λ row. row.arrival) rows.now == 0) }
+{
+    for row in rows {
+        if row.arrival != 0 {
+            return false;
+        }
+    }
+    true
+}
+
+/// That nobody arrives, under a chain.
+fn arrival_fault(rows: &[Row], model: ModelName) -> Option<Code>
+    ensures { result ≡ arrival_fault model rows.now }
+{
+    match model {
+        ModelName::Chain if nobody_arrives(rows) => Some(Code::NoArrivals),
+        _ => None,
+    }
+}
+
+/// The catalogue in the bytes of a products file, or its first fault. Columns that the model doesn't use are judged too.
+pub fn read_products(alloc: Global, bytes: &[u8], model: ModelName) -> Result<Catalogue, InputFault>
+    requires { length bytes.now ≤ MOST_TABLE }
+    ensures rows { IfOk result (λ rows. products_outcome model bytes.now ≡ Ok rows) }
+    ensures shadows { IfOk result (λ rows. model ≡ ModelName.Attract → KeepsShadows rows) }
+    ensures fault { IfErr result (λ e. OnFault e (products_outcome model bytes.now ≡ Err e)) }
+{
+    let names = product_columns(alloc)?;
+    let table = match read_table::<PRODUCT_COLUMNS>(alloc, bytes, &names, &needed_columns(model)) {
+        Ok(table) => table,
+        Err(fault) => return Err(fault_of_table(FileName::Products, fault)),
+    };
+    let rows = read_rows(alloc, &table, model)?;
+    if let Some(code) = arrival_fault(&rows, model) {
+        return Err(InputFault::Fault {
+            file: FileName::Products,
+            row: 1,
+            code,
+        });
+    }
+    Ok(Catalogue::new(rows))
+}
