@@ -7,7 +7,7 @@ use Rattle.offer_model.specs.declared.node.Mark.TheVariants.{In, Out, Open}
 use Rattle.offer_model.specs.declared.products.ModelName.{ModelName}
 use Rattle.offer_model.specs.declared.products.ModelName.TheVariants.{Logit, Attract, Mixed, Chain}
 use Rattle.offer_model.specs.Problems.{ProblemData, product_count}
-use Rattle.offer_model.specs.Validity.{IsRatioModel}
+use Rattle.offer_model.specs.Validity.{IsProblem}
 use Rattle.offer_model.specs.Nodes.{mark_at, open_node}
 use Rattle.proof_lines.specs.declared.line.Shape.{Shape}
 use Rattle.proof_lines.specs.declared.line.Shape.TheVariants as S
@@ -174,24 +174,24 @@ byte_joins p phase begun b r =
 none_refused : (p : ProblemData) (begun r : List ℕ) → Takes (at p refused begun) r → ⊥
 none_refused p begun r t = t.waited
 
-none_long : (p : ProblemData) (phase : Phase) (begun : List ℕ) (b : ℕ) (r : List ℕ) (ls : List LineData) → IsRatioModel p.model → p.limits ≡ [] → product_count p ≤ 256
+none_long : (p : ProblemData) (phase : Phase) (begun : List ℕ) (b : ℕ) (r : List ℕ) (ls : List LineData) → IsProblem p
     → HasNoFeed begun → 39999 ≤ length begun → b ≢ 10 → AreLines ls → begun ++ b ∷ r ≡ text_of ls → PhaseTakes p phase ls → ⊥
-none_long p phase begun b r [] m f few h long d a e w = cons begun e
+none_long p phase begun b r [] v h long d a e w = cons begun e
   where
     cons : (xs : List ℕ) → xs ++ b ∷ r ≡ [] → ⊥
     cons [] e = cc
     cons (x ∷ xs) e = cc
-none_long p phase begun b r (l ∷ ls) m f few h long d a e w =
-    let short = phase_short p phase l ls m f few a.0 w in
+none_long p phase begun b r (l ∷ ls) v h long d a e w =
+    let short = phase_short p phase l ls v a.0 w in
     let whole : (begun ++ b ∷ []) ++ r ≡ line_text l.shape l.numbers ++ 10 ∷ text_of ls = append_assoc begun (b ∷ []) r ∙ e in
     let inside = begun_within (begun ++ b ∷ []) (line_text l.shape l.numbers) r (text_of ls) (no_feed-append begun b h d) whole in
     omega (arith, length-append begun (b ∷ []))
 
 -- A byte too many for a line of an accepted text.
-pub long_refused : (p : ProblemData) (phase : Phase) (begun : List ℕ) (b : ℕ) (r : List ℕ) → IsRatioModel p.model → p.limits ≡ [] → product_count p ≤ 256
+pub long_refused : (p : ProblemData) (phase : Phase) (begun : List ℕ) (b : ℕ) (r : List ℕ) → IsProblem p
     → HasNoFeed begun → 39999 ≤ length begun → b ≢ 10 → Takes (at p refused begun) r ↔ Takes (at p phase begun) (b ∷ r)
-long_refused p phase begun b r m f few h long d =
-    (λ t. absurd (none_refused p begun r t), λ t. absurd (none_long p phase begun b r t.lines m f few h long d t.grammar t.text t.waited))
+long_refused p phase begun b r v h long d =
+    (λ t. absurd (none_refused p begun r t), λ t. absurd (none_long p phase begun b r t.lines v h long d t.grammar t.text t.waited))
 
 -- ---- A line.
 
@@ -299,7 +299,7 @@ pub byte_stop : (before : CheckerData) (s t : Progress) (begun : List ℕ) (b : 
 byte_stop before s t begun b is stop ok h long d =
     let P : CheckerData → Type 0 = λ z. LeadsBy (b ∷ []) z (seen t begun) in
     let R : Progress → Type 0 = λ z. LeadsBy (b ∷ []) (seen s begun) (seen z begun) in
-    subst P is (subst R (sym stop) (λ r. long_refused s.problem (phase_of s) begun b r ok.model ok.free ok.few h (omega arith) d))
+    subst P is (subst R (sym stop) (λ r. long_refused s.problem (phase_of s) begun b r ok.valid h (omega arith) d))
 
 pub byte_step : (before : CheckerData) (s : Progress) (begun new : List ℕ) (b : ℕ) → seen s begun ≡ before → new ≡ begun ++ b ∷ [] → LeadsBy (b ∷ []) before (seen s new)
 byte_step before s begun new b is more =

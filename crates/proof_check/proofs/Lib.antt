@@ -1,7 +1,11 @@
 pub mod PathLemmas
 pub mod ListLemmas
 pub mod PriceLemmas
+pub mod RelaxLemmas
+pub mod LadderLemmas
+pub mod SpaceLemmas
 pub mod LeafLemmas
 pub mod LeadLemmas
 pub mod FeedingLemmas
 pub mod ShortLemmas
+pub mod WorkedLemmas

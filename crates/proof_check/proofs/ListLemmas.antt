@@ -95,3 +95,14 @@ agrees_here node x i b l e is s inv =
   where
     cast : {A B : Type 0} → A ≡ B → A → B
     cast e a = subst (λ (T : Type 0). T) e a
+
+-- A list from a place on.
+pub drop_at : {X : Type 0} (xs : List X) (k : ℕ) (x : X) → slice_get xs k ≡ Some x → drop k xs ≡ x ∷ drop (k + 1) xs
+drop_at xs k x got =
+    let inside = slice_get_within xs k x got in
+    let here = get_or_from_slice_get xs k x x got in
+    drop_more xs k x inside ∙ ap (λ z. z ∷ drop (k + 1) xs) here
+
+-- The item of an equal list.
+pub item_is : {X : Type 0} (xs ys : List X) (k : ℕ) (x d : X) → xs ≡ ys → slice_get xs k ≡ Some x → get_or ys k d ≡ x
+item_is xs ys k x d e got = ap (λ z. get_or z k d) (sym e) ∙ get_or_from_slice_get xs k x d got

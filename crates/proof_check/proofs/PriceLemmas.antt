@@ -1,29 +1,12 @@
--- Sizes and sums of prices.
-use Rattle.std.proofs.Common.{◌≡◌, ℕ, suc, zero, ◌+◌, ◌*◌, ◌<◌, ◌≤◌, ◌^◌, refl, ap, arith, List, get_or, set, length, below_more, add-one, get_or-set_same, get_or-set_other, ◌≢◌}
-use Rattle.std.specs.Prelude.{pos, ◌+ℤ◌, ◌-ℤ◌, ◌≤ℤ◌}
+-- Sums of prices.
+use Rattle.std.proofs.Common.{◌≡◌, ◌≢◌, ℕ, suc, zero, ◌+◌, ◌<◌, refl, ap, arith, List, get_or, set, length, below_more, add-one, get_or-set_same, get_or-set_other}
+use Rattle.std.specs.Prelude.{pos, ◌+ℤ◌}
 use lib.IntN.{ℤ}
 use Rattle.std.proofs.lemmas.Int.{ints}
-use Rattle.std.proofs.Math.Nat.{mul-le-mul_left, mul-le-mul_right}
 use Rattle.offer_model.specs.declared.node.Mark.{Mark}
 use Rattle.offer_model.specs.Problems.{ProblemData, product_count}
 use Rattle.offer_model.specs.Nodes.{mark_at}
 use Rattle.offer_model.specs.Prices.{Prices, int_sum_below, most_of, greatest_worth}
-use Rattle.proof_check.specs.Pricing.{IsWithin}
-
--- How large a price is.
-pub within : (num den r v w : ℕ) → num < 2 ^ 68 → den < 2 ^ 38 → r ≤ 10 ^ 18 → v ≤ 10 ^ 9 → w ≤ v
-    → IsWithin (2 ^ 110) (pos (den * r + num * w) -ℤ pos (num * v))
-within num den r v w n d hr hv hw =
-    let a : den * r ≤ den * 10 ^ 18 = mul-le-mul_left den hr in
-    let b : num * w ≤ num * v = mul-le-mul_left num hw in
-    let e : num * v ≤ num * 10 ^ 9 = mul-le-mul_left num hv in
-    (omega (arith, ints), omega (arith, ints))
-
--- A margin times an attraction.
-pub gain_most : (r v : ℕ) → r ≤ 10 ^ 9 → v ≤ 10 ^ 9 → r * v ≤ 10 ^ 18
-gain_most r v hr hv =
-    let a : r * v ≤ 10 ^ 9 * v = mul-le-mul_right v hr in
-    omega arith
 
 -- Prices that are the same below n have the same sums.
 pub int_sum_same : (n : ℕ) (f g : ℕ → ℤ) → ((i : ℕ) → i < n → f i ≡ g i) → int_sum_below n f ≡ int_sum_below n g
@@ -46,17 +29,11 @@ priced_more P xs i z l below here = below_more (λ k. P k (get_or (set xs i z) k
     (λ k h. let ne : k ≢ i = omega arith in rw get_or-set_other (below k h))
     (rw get_or-set_same here)
 
--- One more product in a sum, and its size.
+-- One more product in a sum.
 pub sum_at : (n : ℕ) (f : ℕ → ℤ) (start sum z : ℤ) → sum ≡ start +ℤ int_sum_below n f → z ≡ f n → sum +ℤ z ≡ start +ℤ int_sum_below (n + 1) f
 sum_at n f start sum z e here =
     let more : int_sum_below (n + 1) f ≡ int_sum_below n f +ℤ f n = rw add-one refl in
     omega (arith, ints, e, here, more)
-
-pub low_more : (n : ℕ) (sum z : ℤ) → pos 0 ≤ℤ (sum +ℤ pos ((n + 1) * 2 ^ 110)) → IsWithin (2 ^ 110) z → pos 0 ≤ℤ ((sum +ℤ z) +ℤ pos ((n + 1 + 1) * 2 ^ 110))
-low_more n sum z l w = omega (arith, ints, w.0, w.1)
-
-pub high_more : (n : ℕ) (sum z : ℤ) → sum ≤ℤ pos ((n + 1) * 2 ^ 110) → IsWithin (2 ^ 110) z → (sum +ℤ z) ≤ℤ pos ((n + 1 + 1) * 2 ^ 110)
-high_more n sum z l w = omega (arith, ints, w.0, w.1)
 
 pub most_at : (m k : Mark) (a b c : ℤ) → m ≡ k → a ≡ b → b ≡ c → most_of m a ≡ most_of k c
 most_at m k a b c e f g = cc

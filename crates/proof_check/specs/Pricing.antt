@@ -1,8 +1,14 @@
--- Prices at a revenue, as a list. Own.
-use Rattle.std.specs.Prelude.{◌≡◌, ℕ, ◌^◌, ◌<◌, length, pos, ◌+ℤ◌, ◌<ℤ◌, slice_index_or}
+-- Prices as a list, and how multipliers move them. Own.
+use Rattle.std.specs.Prelude.{◌≡◌, ℕ, ◌^◌, ◌<◌, ◌≤◌, List, length, pos, ◌+ℤ◌, ◌-ℤ◌, slice_index, slice_index_or}
 use lib.IntN.{ℤ}
+use Rattle.offer_model.specs.declared.node.Mark.{Mark}
+use Rattle.offer_model.specs.declared.products.Limit.{Limit}
+use Rattle.offer_model.specs.Assortments.{sum_below}
 use Rattle.offer_model.specs.Problems.{ProblemData, product_count}
-use Rattle.offer_model.specs.Prices.{Prices, prices_at}
+use Rattle.offer_model.specs.Nodes.{mark_at}
+use Rattle.offer_model.specs.Prices.{Prices, int_sum_below, most_of}
+use Rattle.offer_model.specs.LeafBounds.{taken_by, added_by, allowed_by, priced_limit_at}
+use Rattle.linear_step.specs.Weights.{IsWithin}
 use Rattle.proof_check.specs.declared.prices.PriceList.{PriceList}
 
 abbrev pub price_in : PriceList → ℕ → ℤ
@@ -12,18 +18,23 @@ price_in list i = slice_index_or list.each.items i (pos 0)
 abbrev pub prices_in : PriceList → Prices
 prices_in list = record { constant = list.constant; price = price_in list }
 
--- Less than m in size.
-abbrev pub IsWithin : ℕ → ℤ → Type 0
-IsWithin m z = (z <ℤ pos m) × (pos 0 <ℤ (z +ℤ pos m))
+-- What the products below n of the node add at most to the constant fits, for each n.
+abbrev pub SumsFit : ProblemData → List Mark → Prices → Type 0
+SumsFit p node at = (n : ℕ) → n ≤ product_count p
+    → IsWithin (2 ^ 126) (at.constant +ℤ int_sum_below n (λ i. most_of (mark_at node i) (at.price i)))
 
--- One price for each product, and sums of them fit.
-pub record ArePrices (p : ProblemData) (list : PriceList) : Type 0 where
-  pub each : length list.each.items ≡ product_count p
-  pub small : (i : ℕ) → i < product_count p → IsWithin (2 ^ 110) (price_in list i)
-  pub constant : IsWithin (2 ^ 110) list.constant
+-- Each price and the constant have moved by the limit's multiplier u.
+pub record IsMoved (p : ProblemData) (limit : Limit) (u : ℕ) (before : Prices) (after : PriceList) : Type 0 where
+  pub each : length after.each.items ≡ product_count p
+  pub price : (i : ℕ) → i < product_count p
+      → price_in after i ≡ (before.price i +ℤ pos (added_by limit u i)) -ℤ pos (taken_by p limit u i)
+  pub constant : after.constant ≡ before.constant +ℤ pos (allowed_by limit u)
 
--- They are the prices at the revenue num / den.
-pub record ArePricesAt (p : ProblemData) (num den : ℕ) (list : PriceList) : Type 0 where
-  pub prices : ArePrices p list
-  pub price : (i : ℕ) → i < product_count p → price_in list i ≡ (prices_at p num den).price i
-  pub constant : list.constant ≡ (prices_at p num den).constant
+-- They have moved by the first k of the multipliers us.
+pub record AreRelaxed (p : ProblemData) (us : List ℕ) (before : Prices) (after : PriceList) (k : ℕ) : Type 0 where
+  pub each : length after.each.items ≡ product_count p
+  pub price : (i : ℕ) → i < product_count p → price_in after i
+      ≡ (before.price i +ℤ pos (sum_below k (λ j. added_by (priced_limit_at p j) (slice_index us j) i)))
+      -ℤ pos (sum_below k (λ j. taken_by p (priced_limit_at p j) (slice_index us j) i))
+  pub constant : after.constant
+      ≡ before.constant +ℤ pos (sum_below k (λ j. allowed_by (priced_limit_at p j) (slice_index us j)))

@@ -3,16 +3,15 @@ use Rattle.std.specs.Prelude.{◌≡◌, ◌≢◌, ℕ, ◌≤◌, List, [], �
 use Rattle.std.specs.Prelude.{Bool}
 use Rattle.std.specs.List.{AllByRecursion}
 use Rattle.offer_model.specs.declared.node.Mark.{Mark}
-use Rattle.offer_model.specs.declared.ranges.TheConstants.{MOST_PRODUCTS}
 use Rattle.offer_model.specs.Problems.{ProblemData, product_count, first_segment}
-use Rattle.offer_model.specs.Validity.{IsRatioModel}
+use Rattle.offer_model.specs.Validity.{IsProblem, IsRatioModel}
 use Rattle.offer_model.specs.Revenue.{gain_of, weight_of}
 use Rattle.offer_model.specs.Nodes.{open_node}
 use Rattle.proof_check.specs.declared.progress.Stage.{Stage}
 use Rattle.proof_check.specs.declared.progress.Stage.TheVariants as T
 use Rattle.proof_check.specs.declared.progress.Progress.{Progress}
-use Rattle.proof_check.specs.declared.prices.PriceList.{PriceList}
-use Rattle.proof_check.specs.Pricing.{ArePricesAt}
+use Rattle.linear_step.specs.Weights.{WeightsData, AreWeights, AreAt}
+use Rattle.proof_check.specs.Leaves.{HasRoom}
 use Rattle.proof_lines.specs.Lines.{LineData}
 use Rattle.proof_check.specs.Waiting.{Phase, Leads}
 use Rattle.proof_check.specs.Waiting.Phase.{at_start, at_model, at_set, at_value, in_tree, at_end, refused}
@@ -38,27 +37,28 @@ LeadsOn s t l = Leads s.problem (phase_of s) (phase_of t) l
 abbrev pub AreNodes : ProblemData → List (List Mark) → Type 0
 AreNodes p nodes = AllByRecursion (λ node. length node ≡ product_count p) nodes
 
--- The prices are those at the revenue of x.
-abbrev pub AreOwnPrices : ProblemData → List Bool → PriceList → Type 0
-AreOwnPrices p x list = ArePricesAt p (gain_of p (first_segment p) x) (weight_of p (first_segment p) x) list
+-- The weights are those at the revenue of x.
+pub record AreOwnWeights (p : ProblemData) (x : List Bool) (weights : WeightsData) : Type 0 where
+  pub small : AreWeights p weights
+  pub own : AreAt p (gain_of p (first_segment p) x) (weight_of p (first_segment p) x) weights
 
--- Before the tree the path is at the open node; in the tree the prices are known.
-abbrev pub IsReady : ProblemData → Stage → List Bool → List (List Mark) → PriceList → Type 0
-IsReady p T.Start x nodes list = nodes ≡ open_node (product_count p) ∷ []
-IsReady p T.Model x nodes list = nodes ≡ open_node (product_count p) ∷ []
-IsReady p T.Set x nodes list = nodes ≡ open_node (product_count p) ∷ []
-IsReady p T.Value x nodes list = nodes ≡ open_node (product_count p) ∷ []
-IsReady p T.Tree x nodes list = AreNodes p nodes × AreOwnPrices p x list
-IsReady p T.End x nodes list = Unit {0}
-IsReady p T.Refused x nodes list = Unit {0}
+-- Before the tree the path is at the open node; in the tree the weights are known.
+abbrev pub IsReady : ProblemData → Stage → List Bool → List (List Mark) → WeightsData → Type 0
+IsReady p T.Start x nodes weights = nodes ≡ open_node (product_count p) ∷ []
+IsReady p T.Model x nodes weights = nodes ≡ open_node (product_count p) ∷ []
+IsReady p T.Set x nodes weights = nodes ≡ open_node (product_count p) ∷ []
+IsReady p T.Value x nodes weights = nodes ≡ open_node (product_count p) ∷ []
+IsReady p T.Tree x nodes weights = AreNodes p nodes × AreOwnWeights p x weights
+IsReady p T.End x nodes weights = Unit {0}
+IsReady p T.Refused x nodes weights = Unit {0}
 
 pub record IsProgress (s : Progress) : Type 0 where
   pub model : IsRatioModel s.problem.model
-  pub free : s.problem.limits ≡ []
-  pub few : product_count s.problem ≤ MOST_PRODUCTS
+  pub valid : IsProblem s.problem
   pub each : length s.set ≡ product_count s.problem
-  pub listed : length s.prices.each.items ≡ product_count s.problem
-  pub ready : IsReady s.problem s.stage s.set s.path s.prices
+  pub listed : product_count s.problem ≤ s.weights.room
+  pub room : HasRoom s.problem s.leaves
+  pub ready : IsReady s.problem s.stage s.set s.path s.weights
 
 -- No byte of the line that has begun is a line feed.
 abbrev pub HasNoFeed : List ℕ → Type 0

@@ -43,8 +43,7 @@ impl Model for Checker {
 impl Checker {
     /// A checker that has read nothing. It takes all its memory here.
     pub fn for_problem(alloc: Global, p: &Problem) -> Result<Checker, NoMemory>
-        requires model { IsRatioModel p.now.model }
-        requires free { p.now.limits ≡ [] }
+        requires { IsRatioModel p.now.model }
         ensures { IfOk result (λ checker. (r : List ℕ) → Takes checker r ↔ Accepts p.now r) }
     {
         let progress = Progress::new(alloc, p)?;

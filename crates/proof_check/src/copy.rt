@@ -1,4 +1,4 @@
-ghost use Rattle.std.specs.Prelude.{◌≡◌, [], length, IfOk};
+ghost use Rattle.std.specs.Prelude.{◌≡◌, length, IfOk};
 ghost use Rattle.offer_model.specs.Problems.{product_count};
 ghost use Rattle.offer_model.specs.Validity.{IsRatioModel};
 
@@ -12,6 +12,17 @@ fn copy_products(alloc: Global, products: &Products) -> Result<Products, NoMemor
     copy.reserve(products.len())?;
     for i in 0..products.len() {
         copy.push(*products.get(i));
+    }
+    Ok(copy)
+}
+
+fn copy_limits(alloc: Global, limits: &Limits) -> Result<Limits, NoMemory>
+    ensures { IfOk result (λ copy. copy.items ≡ limits.now.items) }
+{
+    let mut copy = Limits::new(alloc);
+    copy.reserve(limits.len())?;
+    for i in 0..limits.len() {
+        copy.push(*limits.get(i));
     }
     Ok(copy)
 }
@@ -63,11 +74,11 @@ fn copy_segments(alloc: Global, p: &Problem) -> Result<Segments, NoMemory>
 
 /// An equal problem.
 pub(crate) fn copy_problem(alloc: Global, p: &Problem) -> Result<Problem, NoMemory>
-    requires model { IsRatioModel p.now.model }
-    requires free { p.now.limits ≡ [] }
+    requires { IsRatioModel p.now.model }
     ensures { IfOk result (λ copy. copy ≡ p.now) }
 {
     let products = copy_products(alloc, p.products())?;
     let segments = copy_segments(alloc, p)?;
-    Ok(Problem::new(p.model(), p.unit(), products, segments, Limits::new(alloc)))
+    let limits = copy_limits(alloc, p.limits())?;
+    Ok(Problem::new(p.model(), p.unit(), products, segments, limits))
 }

@@ -1,40 +1,29 @@
-ghost use Rattle.std.specs.Prelude.{◌≡◌, ◌↔◌, [], length, replicate, IsTrue, Some};
+ghost use Rattle.std.specs.Prelude.{◌≡◌, ◌↔◌, [], length, IfOk, IsTrue};
 ghost use Rattle.offer_model.specs.Assortments.{IsBefore};
 ghost use Rattle.offer_model.specs.Problems.{product_count};
-ghost use Rattle.offer_model.specs.Validity.{IsRatioModel};
-ghost use Rattle.offer_model.specs.Nodes.{is_in, fill_of};
-ghost use Rattle.proof_lines.specs.Closing.{ComesAfter, BoundCloses, Closes};
-ghost use Rattle.proof_check.specs.Leaves.{FitsFreely};
-ghost use Rattle.proof_check.specs.Stages.{AreOwnPrices};
+ghost use Rattle.offer_model.specs.Validity.{IsProblem, IsRatioModel};
+ghost use Rattle.offer_model.specs.Nodes.{is_in, fill_of, Clashes};
+ghost use Rattle.proof_lines.specs.Lines.{AreNumbers, IsLine};
+ghost use Rattle.proof_lines.specs.Closing.{ComesAfter, BoundCloses, PricesClose, Closes};
+ghost use Rattle.linear_step.specs.Weights.{prices_of, AreWeights};
+ghost use Rattle.proof_check.specs.Leaves.{HasRoom, ClosesBy};
+ghost use Rattle.proof_check.specs.Stages.{AreOwnWeights};
 
-use crate::prices::PriceList;
-use offer_model::{Assortment, Mark, Node, Problem, Wide};
+use crate::multipliers::Multipliers;
+use crate::potentials::Potentials;
+use crate::shelf::ShelfRow;
+use limit_rules::clashes;
+use linear_step::Weights;
+use offer_model::{Assortment, Mark, NoMemory, Node, Problem, Wide};
 use proof_lines::Shape;
+use std::alloc::Global;
 
-/// Whether the numbers are `n` zeros.
-fn are_zeros(numbers: &Wide, n: usize) -> bool
-    ensures { IsTrue result ↔ (numbers.now.items ≡ replicate n 0) }
-{
-    if numbers.len() != n {
-        return false;
-    }
-    for i in 0..n {
-        if *numbers.get(i) != 0 {
-            return false;
-        }
-    }
-    true
-}
-
-/// Whether a leaf of this shape and these numbers bounds by prices alone.
-fn fits_freely(n: usize, shape: Shape, numbers: &Wide) -> bool
-    ensures { IsTrue result ↔ FitsFreely n shape numbers.now.items }
-{
-    match shape {
-        Shape::Multipliers => are_zeros(numbers, 0),
-        Shape::Potentials => are_zeros(numbers, n),
-        _ => false,
-    }
+/// The room that leaves of a problem are judged in.
+#[derive(Drop)]
+pub(crate) struct Leaves {
+    multipliers: Multipliers,
+    potentials: Potentials,
+    shelf: ShelfRow,
 }
 
 fn is_in(mark: Mark) -> bool
@@ -58,34 +47,134 @@ fn comes_after(node: &Node, x: &Assortment) -> bool
 }
 
 /// Whether a bound closes the node.
-fn bound_closes(bound: i128, node: &Node, x: &Assortment) -> bool
+fn bound_closes(bound: Option<i128>, node: &Node, x: &Assortment) -> bool
     requires { length x.now ≡ length node.now }
-    ensures { IsTrue result ↔ BoundCloses x.now node.now (Some bound) }
+    ensures { IsTrue result ↔ BoundCloses x.now node.now bound }
 {
-    if bound == 0 {
-        return comes_after(node, x);
+    match bound {
+        Some(0) => comes_after(node, x),
+        Some(worth) => worth < 0,
+        None => false,
     }
-    bound < 0
 }
 
-/// Whether a leaf of this shape and these numbers closes the node.
-pub(crate) fn closes(
-    p: &Problem,
-    x: &Assortment,
-    prices: &PriceList,
-    node: &Node,
-    shape: Shape,
-    numbers: &Wide,
-) -> bool
-    requires model { IsRatioModel p.now.model }
-    requires free { p.now.limits ≡ [] }
-    requires set { length x.now ≡ product_count p.now }
-    requires prices { AreOwnPrices p.now x.now prices.now }
-    requires node { length node.now ≡ product_count p.now }
-    ensures { IsTrue result ↔ Closes p.now x.now node.now shape numbers.now.items }
-{
-    if !fits_freely(node.len(), shape, numbers) {
-        return false;
+impl Leaves {
+    /// Room for leaves of the problem.
+    pub(crate) fn new(alloc: Global, p: &Problem) -> Result<Leaves, NoMemory>
+        ensures { IfOk result (λ leaves. HasRoom p.now leaves) }
+    {
+        Ok(Leaves {
+            multipliers: Multipliers::new(alloc, p)?,
+            potentials: Potentials::new(alloc, p)?,
+            shelf: ShelfRow::new(alloc, p)?,
+        })
     }
-    bound_closes(prices.greatest(p, node), node, x)
+
+    /// The bound of multipliers, where they may be the multipliers.
+    fn by_multipliers(
+        &mut self,
+        p: &Problem,
+        weights: &Weights,
+        node: &Node,
+        numbers: &Wide,
+    ) -> Option<i128>
+        requires valid { IsProblem p.now }
+        requires room { HasRoom p.now self.old }
+        requires weights { AreWeights p.now weights.now }
+        requires node { length node.now ≡ product_count p.now }
+        requires numbers { AreNumbers numbers.now.items }
+        ensures closes { ClosesBy p.now (prices_of weights.now) node.now Shape.Multipliers numbers.now.items result }
+        ensures room { HasRoom p.now self.new }
+    {
+        if !self.multipliers.fit(p, numbers) {
+            return None;
+        }
+        Some(self.multipliers.bound(p, weights, node, numbers))
+    }
+
+    /// The bound of the shelf's table, where the node doesn't clash.
+    fn by_shelf(&mut self, p: &Problem, weights: &Weights, node: &Node) -> Option<i128>
+        requires room { HasRoom p.now self.old }
+        requires weights { AreWeights p.now weights.now }
+        requires node { length node.now ≡ product_count p.now }
+        ensures closes { ClosesBy p.now (prices_of weights.now) node.now Shape.Shelf [] result }
+        ensures room { HasRoom p.now self.new }
+    {
+        if clashes(p, node) {
+            return None;
+        }
+        self.shelf.bound(p, weights, node)
+    }
+
+    /// The bound of potentials, where they may be the potentials at the node and it doesn't clash.
+    fn by_potentials(
+        &mut self,
+        p: &Problem,
+        weights: &Weights,
+        node: &Node,
+        numbers: &Wide,
+    ) -> Option<i128>
+        requires room { HasRoom p.now self.old }
+        requires weights { AreWeights p.now weights.now }
+        requires node { length node.now ≡ product_count p.now }
+        requires numbers { AreNumbers numbers.now.items }
+        ensures closes { ClosesBy p.now (prices_of weights.now) node.now Shape.Potentials numbers.now.items result }
+        ensures room { HasRoom p.now self.new }
+    {
+        if clashes(p, node) || !self.potentials.fit(p, weights, node, numbers) {
+            return None;
+        }
+        Some(self.potentials.bound(p, weights, node, numbers))
+    }
+
+    /// The bound of a leaf of this shape and these numbers at the node, where it has one.
+    fn bound(
+        &mut self,
+        p: &Problem,
+        weights: &Weights,
+        node: &Node,
+        shape: Shape,
+        numbers: &Wide,
+    ) -> Option<i128>
+        requires valid { IsProblem p.now }
+        requires room { HasRoom p.now self.old }
+        requires weights { AreWeights p.now weights.now }
+        requires node { length node.now ≡ product_count p.now }
+        requires line { IsLine shape numbers.now.items }
+        ensures closes { ClosesBy p.now (prices_of weights.now) node.now shape numbers.now.items result }
+        ensures room { HasRoom p.now self.new }
+    {
+        match shape {
+            Shape::Multipliers => self.by_multipliers(p, weights, node, numbers),
+            Shape::Shelf => self.by_shelf(p, weights, node),
+            Shape::Potentials => self.by_potentials(p, weights, node, numbers),
+            _ => None,
+        }
+    }
+
+    /// Whether a leaf of this shape and these numbers closes the node.
+    pub(crate) fn close(
+        &mut self,
+        p: &Problem,
+        x: &Assortment,
+        weights: &Weights,
+        node: &Node,
+        shape: Shape,
+        numbers: &Wide,
+    ) -> bool
+        requires model { IsRatioModel p.now.model }
+        requires valid { IsProblem p.now }
+        requires room { HasRoom p.now self.old }
+        requires set { length x.now ≡ product_count p.now }
+        requires weights { AreOwnWeights p.now x.now weights.now }
+        requires node { length node.now ≡ product_count p.now }
+        requires line { IsLine shape numbers.now.items }
+        ensures closes { IsTrue result ↔ Closes p.now x.now node.now shape numbers.now.items }
+        ensures room { HasRoom p.now self.new }
+    {
+        if shape == Shape::Clash {
+            return clashes(p, node);
+        }
+        bound_closes(self.bound(p, weights, node, shape, numbers), node, x)
+    }
 }

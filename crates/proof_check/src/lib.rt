@@ -1,12 +1,16 @@
-//! Checks certificates line by line, for problems without limits under logit and generalised attraction.
+//! Checks certificates line by line, for problems under logit and generalised attraction.
 #![tactic(auto)]
 
 mod checker;
 mod copy;
 mod leaf;
+mod multipliers;
+mod numbers;
 mod path;
+mod potentials;
 mod prices;
 mod progress;
+mod shelf;
 #[cfg(test)]
 mod tests;
 

@@ -1,5 +1,6 @@
-ghost use Rattle.std.specs.Prelude.{◌≡◌, ◌<◌, ◌↔◌, [], ◌∷◌, length, IsTrue, IfOk};
+ghost use Rattle.std.specs.Prelude.{◌≡◌, ◌≤◌, ◌<◌, ◌↔◌, [], ◌∷◌, length, IsTrue, IfOk};
 ghost use Rattle.offer_model.specs.Problems.{product_count, first_segment};
+ghost use Rattle.offer_model.specs.Limits.{IsFeasible};
 ghost use Rattle.offer_model.specs.Ranges.{gain_bound, weight_bound};
 ghost use Rattle.offer_model.specs.Revenue.{gain_of, weight_of};
 ghost use Rattle.offer_model.specs.Validity.{IsRatioModel};
@@ -9,9 +10,10 @@ ghost use Rattle.proof_check.specs.Waiting.Phase.{at_start};
 ghost use Rattle.proof_check.specs.Stages.{phase_of, LeadsOn, IsProgress};
 
 use crate::copy::copy_problem;
-use crate::leaf::closes;
+use crate::leaf::Leaves;
 use crate::path::Path;
-use crate::prices::PriceList;
+use limit_rules::first_broken;
+use linear_step::{Weights, weights_at};
 use offer_model::{Assortment, Mark, NoMemory, Problem, Wide, gain, weight};
 use proof_lines::Shape;
 use std::alloc::Global;
@@ -36,7 +38,8 @@ pub(crate) struct Progress {
     stage: Stage,
     set: Assortment,
     path: Path,
-    prices: PriceList,
+    weights: Weights,
+    leaves: Leaves,
 }
 
 fn own_gain(p: &Problem, x: &Assortment) -> u128
@@ -55,6 +58,7 @@ fn own_weight(p: &Problem, x: &Assortment) -> u128
     requires set { length x.now ≡ product_count p.now }
     ensures value { result ≡ weight_of p.now (first_segment p.now) x.now }
     ensures bound { result < weight_bound }
+    ensures some { 1 ≤ result }
 {
     let segments = p.segments().len();
     prove!(segments == 1);
@@ -76,6 +80,13 @@ fn says_value(p: &Problem, x: &Assortment, numbers: &Wide) -> bool
     form == 1 && num == own_gain(p, x) && den == own_weight(p, x)
 }
 
+fn is_feasible(p: &Problem, x: &Assortment) -> bool
+    requires { length x.now ≡ product_count p.now }
+    ensures { IsTrue result ↔ IsFeasible p.now x.now }
+{
+    first_broken(p, x).is_none()
+}
+
 /// Offers what the digits say.
 fn write_set(digits: &Wide, x: &mut Assortment)
     requires digits { AreDigits digits.now.items }
@@ -90,8 +101,7 @@ fn write_set(digits: &Wide, x: &mut Assortment)
 impl Progress {
     /// Nothing has been read.
     pub(crate) fn new(alloc: Global, p: &Problem) -> Result<Progress, NoMemory>
-        requires model { IsRatioModel p.now.model }
-        requires free { p.now.limits ≡ [] }
+        requires { IsRatioModel p.now.model }
         ensures problem { IfOk result (λ s. s.problem ≡ p.now) }
         ensures phase { IfOk result (λ s. phase_of s ≡ at_start) }
         ensures progress { IfOk result IsProgress }
@@ -100,13 +110,15 @@ impl Progress {
         let n = problem.products().len();
         let set = Assortment::empty(alloc, n)?;
         let path = Path::new(alloc, n)?;
-        let prices = PriceList::new(alloc, n)?;
+        let weights = Weights::reserve(alloc, n)?;
+        let leaves = Leaves::new(alloc, p)?;
         Ok(Progress {
             problem,
             stage: Stage::Start,
             set,
             path,
-            prices,
+            weights,
+            leaves,
         })
     }
 
@@ -167,6 +179,9 @@ impl Progress {
             return self.refuse();
         }
         write_set(numbers, &mut self.set);
+        if !is_feasible(&self.problem, &self.set) {
+            return self.refuse();
+        }
         self.stage = Stage::Value;
     }
 
@@ -186,7 +201,7 @@ impl Progress {
         }
         let gain = own_gain(&self.problem, &self.set);
         let weight = own_weight(&self.problem, &self.set);
-        self.prices.fill(&self.problem, gain, weight);
+        weights_at(&self.problem, gain, weight, &mut self.weights);
         self.stage = Stage::Tree;
     }
 
@@ -230,14 +245,15 @@ impl Progress {
         requires stage { self.old.stage ≡ Stage.Tree }
         requires node { 0 < length self.old.path }
         requires shape { shape ≡ Shape.Branch → ⊥ }
+        requires line { IsLine shape numbers.now.items }
         ensures progress { IsProgress self.new }
         ensures problem { self.new.problem ≡ self.old.problem }
         ensures leads { LeadsOn self.old self.new (line shape numbers.now.items) }
     {
-        if !closes(
+        if !self.leaves.close(
             &self.problem,
             &self.set,
-            &self.prices,
+            &self.weights,
             self.path.node(),
             shape,
             numbers,

@@ -1,9 +1,11 @@
-ghost use Rattle.std.specs.Prelude.{◌≡◌, ◌<◌, [], ◌∷◌, IfOk};
+ghost use Rattle.std.specs.Prelude.{◌≡◌, ◌<◌, ◌≤◌, [], ◌∷◌, length, replicate, IfOk};
+ghost use Rattle.offer_model.specs.Validity.{IsPositiveAmount, IsProblem};
 ghost use Rattle.offer_model.specs.WorkedValues.{plain_product};
+ghost use Rattle.proof_check.specs.WorkedProblems.{wide_product, graded_product, even_segment, even_problem, one_of_two, three_chained, three_on_shelf, three_on_ladder};
 
 use crate::checker::{Checker, Verdict};
 use offer_model::{
-    Limits, ModelName, NoMemory, Numbers, Problem, Product, Products, Segment, Segments,
+    Limit, Limits, ModelName, NoMemory, Numbers, Problem, Product, Products, Segment, Segments,
 };
 use std::alloc::Global;
 
@@ -46,8 +48,7 @@ fn two_numbers(alloc: Global, first: u64, second: u64) -> Result<Numbers, NoMemo
 
 /// Margins 10 and 4, attractions 2 and 3, buying nothing 5.
 fn pair(alloc: Global) -> Result<Problem, NoMemory>
-    ensures model { IfOk result (λ p. p.model ≡ ModelName.Logit) }
-    ensures free { IfOk result (λ p. p.limits ≡ []) }
+    ensures { IfOk result (λ p. p.model ≡ ModelName.Logit) }
 {
     let attract = two_numbers(alloc, 2, 3)?;
     let shadow = two_numbers(alloc, 0, 0)?;
@@ -56,6 +57,167 @@ fn pair(alloc: Global) -> Result<Problem, NoMemory>
     segments.push(Segment::new(1, 5, attract, shadow));
     let products = two_products(alloc)?;
     Ok(Problem::new(ModelName::Logit, 1, products, segments, Limits::new(alloc)))
+}
+
+fn equal_numbers(alloc: Global, n: usize, number: u64) -> Result<Numbers, NoMemory>
+    ensures { IfOk result (λ list. list.items ≡ replicate n number) }
+{
+    let mut list = Numbers::new(alloc);
+    list.reserve(n)?;
+    for _place in 0..n {
+        list.push(number);
+    }
+    Ok(list)
+}
+
+#[tactic(auto, using(crate::proofs::WorkedLemmas::even_is_segment))]
+fn even_segments(alloc: Global, n: usize, none: u64, attraction: u64) -> Result<Segments, NoMemory>
+    requires none { IsPositiveAmount none }
+    requires attraction { attraction ≤ 1000000000 }
+    ensures { IfOk result (λ list. list.items ≡ even_segment n none attraction ∷ []) }
+{
+    let attract = equal_numbers(alloc, n, attraction)?;
+    let shadow = equal_numbers(alloc, n, 0)?;
+    let mut segments = Segments::new(alloc);
+    segments.reserve(1)?;
+    segments.push(Segment::new(1, none, attract, shadow));
+    Ok(segments)
+}
+
+/// Products of one attraction, under limits.
+fn even(
+    alloc: Global,
+    none: u64,
+    attraction: u64,
+    products: Products,
+    limits: Limits,
+) -> Result<Problem, NoMemory>
+    requires none { IsPositiveAmount none }
+    requires attraction { attraction ≤ 1000000000 }
+    requires problem { IsProblem (even_problem none attraction products.items limits.items) }
+    ensures { IfOk result (λ p. p ≡ even_problem none attraction products.items limits.items) }
+{
+    let segments = even_segments(alloc, products.len(), none, attraction)?;
+    Ok(Problem::new(ModelName::Logit, 1, products, segments, limits))
+}
+
+#[tactic(auto, using(crate::proofs::WorkedLemmas::one_of_two_is_problem))]
+fn one_of_two(alloc: Global) -> Result<Problem, NoMemory>
+    ensures { IfOk result (λ p. p ≡ one_of_two) }
+{
+    let mut products = Products::new(alloc);
+    products.reserve(2)?;
+    products.push(product(10));
+    products.push(product(10));
+    let mut limits = Limits::new(alloc);
+    limits.reserve(1)?;
+    limits.push(Limit::Total(1));
+    even(alloc, 2, 2, products, limits)
+}
+
+#[tactic(auto, using(crate::proofs::WorkedLemmas::three_chained_is_problem))]
+fn three_chained(alloc: Global) -> Result<Problem, NoMemory>
+    ensures { IfOk result (λ p. p ≡ three_chained) }
+{
+    let mut products = Products::new(alloc);
+    products.reserve(3)?;
+    products.push(product(10));
+    products.push(product(0));
+    products.push(product(0));
+    let mut limits = Limits::new(alloc);
+    limits.reserve(2)?;
+    limits.push(Limit::Requires(0, 1));
+    limits.push(Limit::Requires(1, 2));
+    even(alloc, 2, 1, products, limits)
+}
+
+fn wide(margin: u64, space: u64) -> Product
+    ensures { result ≡ wide_product margin space }
+{
+    Product {
+        margin,
+        category: 0,
+        space,
+        price: 0,
+        ladder: 0,
+        grade: 0,
+    }
+}
+
+#[tactic(auto, using(crate::proofs::WorkedLemmas::three_on_shelf_is_problem))]
+fn three_on_shelf(alloc: Global) -> Result<Problem, NoMemory>
+    ensures { IfOk result (λ p. p ≡ three_on_shelf) }
+{
+    let mut products = Products::new(alloc);
+    products.reserve(3)?;
+    products.push(wide(10, 3));
+    products.push(wide(8, 2));
+    products.push(wide(8, 2));
+    let mut limits = Limits::new(alloc);
+    limits.reserve(1)?;
+    limits.push(Limit::Shelf(4));
+    even(alloc, 4, 2, products, limits)
+}
+
+fn graded(margin: u64, price: u64, grade: u64) -> Product
+    ensures { result ≡ graded_product margin price grade }
+{
+    Product {
+        margin,
+        category: 0,
+        space: 0,
+        price,
+        ladder: 1,
+        grade,
+    }
+}
+
+#[tactic(auto, using(crate::proofs::WorkedLemmas::three_on_ladder_is_problem))]
+fn three_on_ladder(alloc: Global) -> Result<Problem, NoMemory>
+    ensures { IfOk result (λ p. p ≡ three_on_ladder) }
+{
+    let mut products = Products::new(alloc);
+    products.reserve(3)?;
+    products.push(graded(5, 5, 1));
+    products.push(graded(8, 8, 1));
+    products.push(graded(6, 6, 2));
+    let mut limits = Limits::new(alloc);
+    limits.reserve(1)?;
+    limits.push(Limit::Ladder(1));
+    even(alloc, 1, 1, products, limits)
+}
+
+/// The worked problems.
+#[derive(Clone, Copy)]
+enum Worked {
+    Pair,
+    OneOfTwo,
+    ThreeChained,
+    ThreeOnShelf,
+    ThreeOnLadder,
+}
+
+fn problem_of(alloc: Global, which: Worked) -> Result<Problem, NoMemory>
+    ensures { IfOk result (λ p. p.model ≡ ModelName.Logit) }
+{
+    match which {
+        Worked::Pair => pair(alloc),
+        Worked::OneOfTwo => one_of_two(alloc),
+        Worked::ThreeChained => three_chained(alloc),
+        Worked::ThreeOnShelf => three_on_shelf(alloc),
+        Worked::ThreeOnLadder => three_on_ladder(alloc),
+    }
+}
+
+/// The header of the best assortment.
+fn header(which: Worked) -> &'static str {
+    match which {
+        Worked::Pair => HEADER,
+        Worked::OneOfTwo => "assort-proof 1\nmodel logit\nset 01\nvalue 20/4\n",
+        Worked::ThreeChained => "assort-proof 1\nmodel logit\nset 111\nvalue 10/5\n",
+        Worked::ThreeOnShelf => "assort-proof 1\nmodel logit\nset 011\nvalue 32/8\n",
+        Worked::ThreeOnLadder => "assort-proof 1\nmodel logit\nset 010\nvalue 8/2\n",
+    }
 }
 
 /// The verdict on a text that comes in pieces of this size.
@@ -121,11 +283,12 @@ fn texts_are_judged(rt: HostRuntime) {
         ("no tree", "end\n", Verdict::No),
     ];
     for (name, lines, wanted) in tree {
-        let found = judged(rt.alloc(), HEADER, lines);
+        let found = judged(rt.alloc(), Worked::Pair, HEADER, lines);
         assert!(rt; found == Ok(wanted), "{name}");
     }
     let other = judged(
         rt.alloc(),
+        Worked::Pair,
         "assort-proof 1\nmodel logit\nset 11\nvalue 64/20\n",
         "b 0\nb 1\nm\nm\nm\nend\n",
     );
@@ -136,11 +299,123 @@ fn texts_are_judged(rt: HostRuntime) {
 }
 
 /// The verdict on two pieces.
-fn judged(alloc: Global, header: &str, lines: &str) -> Result<Verdict, NoMemory> {
-    let mut checker = Checker::for_problem(alloc, &pair(alloc)?)?;
+fn judged(alloc: Global, which: Worked, header: &str, lines: &str) -> Result<Verdict, NoMemory> {
+    let mut checker = Checker::for_problem(alloc, &problem_of(alloc, which)?)?;
     checker.feed(header.as_bytes());
     checker.feed(lines.as_bytes());
     Ok(checker.finish())
+}
+
+#[test]
+fn leaves_under_limits_are_judged(rt: HostRuntime) {
+    let trees = [
+        (
+            Worked::OneOfTwo,
+            "b 0\nm 40\nb 1\nm 0\nm 0\nend\n",
+            Verdict::Yes,
+        ),
+        (
+            Worked::OneOfTwo,
+            "b 0\nm 39\nb 1\nm 0\nm 0\nend\n",
+            Verdict::No,
+        ),
+        (
+            Worked::OneOfTwo,
+            "b 0\nm\nb 1\nm 0\nm 0\nend\n",
+            Verdict::No,
+        ),
+        (
+            Worked::OneOfTwo,
+            "b 0\nm 1267650600228229401496703205376\nb 1\nm 0\nm 0\nend\n",
+            Verdict::Yes,
+        ),
+        (
+            Worked::OneOfTwo,
+            "b 0\nm 1267650600228229401496703205377\nb 1\nm 0\nm 0\nend\n",
+            Verdict::No,
+        ),
+        (
+            Worked::OneOfTwo,
+            "b 0\nb 1\nx\nm 0\nb 1\nm 0\nm 0\nend\n",
+            Verdict::Yes,
+        ),
+        (
+            Worked::OneOfTwo,
+            "b 0\nx\nb 1\nm 0\nm 0\nend\n",
+            Verdict::No,
+        ),
+        (
+            Worked::OneOfTwo,
+            "b 0\nt\nb 1\nm 0\nm 0\nend\n",
+            Verdict::No,
+        ),
+        (
+            Worked::OneOfTwo,
+            "b 0\nm 40\nb 1\np 0 0\np 0 0\nend\n",
+            Verdict::Yes,
+        ),
+        (
+            Worked::ThreeChained,
+            "b 0\nb 2\nb 1\nm 0 0\nx\nm 21 21\nm 0 0\nend\n",
+            Verdict::Yes,
+        ),
+        (
+            Worked::ThreeChained,
+            "b 0\nb 2\nb 1\nm 0 0\nx\nm 20 20\nm 0 0\nend\n",
+            Verdict::No,
+        ),
+        (
+            Worked::ThreeOnShelf,
+            "b 0\nt\nb 1\nb 2\nt\nt\nt\nend\n",
+            Verdict::Yes,
+        ),
+        (
+            Worked::ThreeOnShelf,
+            "b 2\nb 1\nt\nt\nt\nend\n",
+            Verdict::Yes,
+        ),
+        (Worked::ThreeOnShelf, "b 0\nt\nt\nend\n", Verdict::No),
+        (Worked::ThreeOnShelf, "t\nend\n", Verdict::No),
+        (
+            Worked::ThreeOnLadder,
+            "b 0\np 0 0 4\nb 1\np 0 0 0\np 0 0 4\nend\n",
+            Verdict::Yes,
+        ),
+        (
+            Worked::ThreeOnLadder,
+            "b 0\np 0 0 3\nb 1\np 0 0 0\np 0 0 4\nend\n",
+            Verdict::No,
+        ),
+        (
+            Worked::ThreeOnLadder,
+            "b 1\np 0 0 0\np 6 0 4\nend\n",
+            Verdict::Yes,
+        ),
+        (
+            Worked::ThreeOnLadder,
+            "b 1\np 0 0 0\np 4 0 4\nend\n",
+            Verdict::No,
+        ),
+        (
+            Worked::ThreeOnLadder,
+            "b 1\np 0 0 0\np 6 5 4\nend\n",
+            Verdict::No,
+        ),
+    ];
+    for (which, lines, wanted) in trees {
+        let found = judged(rt.alloc(), which, header(which), lines);
+        assert!(rt; found == Ok(wanted), "{lines}");
+    }
+    let both = judged(
+        rt.alloc(),
+        Worked::OneOfTwo,
+        "assort-proof 1\nmodel logit\nset 11\nvalue 40/6\n",
+        "b 0\nb 1\nx\nm 0\nm 0\nend\n",
+    );
+    assert!(rt;
+        both == Ok(Verdict::No),
+        "an assortment that isn't feasible"
+    );
 }
 
 #[test]

@@ -28,10 +28,11 @@ line_short s ns h few = let all = length-line_text-le s ns h in omega arith
 
 -- ---- The numbers of leaves.
 
-record IsSmall (p : ProblemData) : Type 0 where
-  products : product_count p ≤ 512
-  limits : length (priced_limits p) ≤ 1024
-  segments : length p.segments ≤ 1024
+-- The problem has no more than a line may have numbers.
+pub record IsSmall (p : ProblemData) : Type 0 where
+  pub products : product_count p ≤ 512
+  pub limits : length (priced_limits p) ≤ 1024
+  pub segments : length p.segments ≤ 1024
 
 prices_few : (p : ProblemData) (x : List Bool) (node : List Mark) (shape : Shape) (us : List ℕ) → IsSmall p → PricesClose p x node shape us (own_prices p x) → length us ≤ 1024
 prices_few p x node S.Multipliers us h k = let same = k.0.each in let most = h.limits in omega arith
@@ -49,7 +50,8 @@ model_few Attract p x node shape us h k = prices_few p x node shape us h k
 model_few Mixed p x node shape us h k = segments_few p x node shape us h k
 model_few Chain p x node shape us h k = absurd k
 
-leaf_few : (p : ProblemData) (x : List Bool) (node : List Mark) (shape : Shape) (us : List ℕ) → IsSmall p → Closes p x node shape us → length us ≤ 1024
+-- A leaf that closes its node has at most 1,024 numbers.
+pub leaf_few : (p : ProblemData) (x : List Bool) (node : List Mark) (shape : Shape) (us : List ℕ) → IsSmall p → Closes p x node shape us → length us ≤ 1024
 leaf_few p x node S.Clash us h k = let same = ap length k.0 in omega arith
 leaf_few p x node shape us h k = model_few p.model p x node shape us h k
 

@@ -1,6 +1,6 @@
-pub mod GreatestLemmas
 pub mod ClosingLemmas
 pub mod PathLemmas
+pub mod LeafLemmas
 pub mod LineLemmas
 pub mod WriteLemmas
-pub mod FreeProofLemmas
+pub mod RatioProofLemmas

@@ -1,3 +1,5 @@
-pub mod FreeLines
+pub mod HeaderLines
+pub mod Leaves
+pub mod PathLines
 pub mod Outputs
 pub mod Room

@@ -1,3 +1,4 @@
+use offer_model::NoMemory;
 use std::error::Error;
 use std::fmt;
 
@@ -20,3 +21,14 @@ impl fmt::Display for ProofFault {
 }
 
 impl Error for ProofFault {}
+
+impl From<NoMemory> for ProofFault {
+    ghost use Rattle.std.specs.Prelude.{◌≡◌};
+    ghost use Rattle.proof_write.specs.declared.faults.ProofFault.TheVariants as fault;
+
+    ghost from_gives = { λ _ e. e ≡ fault.NoMemory };
+
+    fn from(_: NoMemory) -> Self {
+        ProofFault::NoMemory
+    }
+}

@@ -1,11 +1,14 @@
-ghost use Rattle.std.specs.Prelude.{◌≡◌, ◌<◌, ◌≤◌, [], ◌∷◌, length, ◌^◌, IsTrue};
+ghost use Rattle.std.specs.Prelude.{◌≡◌, ◌<◌, ◌≤◌, [], ◌∷◌, length, IsTrue};
 ghost use Rattle.offer_model.specs.Problems.{product_count};
+ghost use Rattle.offer_model.specs.Ranges.{gain_bound, weight_bound};
 ghost use Rattle.offer_model.specs.Validity.{IsRatioModel};
+ghost use Rattle.offer_model.specs.Prices.{prices_at};
 ghost use Rattle.offer_model.specs.declared.ranges.TheConstants.{MOST_PRODUCTS as most_products};
 ghost use Rattle.proof_lines.specs.Lines.{line};
+ghost use Rattle.proof_lines.specs.Closing.{own_prices};
 ghost use Rattle.proof_lines.specs.Acceptance.{digits_of, value_numbers};
 ghost use Rattle.proof_lines.specs.declared.line.Shape.TheVariants as Shapes;
-ghost use Rattle.proof_write.specs.FreeLines.{header_lines};
+ghost use Rattle.proof_write.specs.HeaderLines.{header_lines};
 ghost use Rattle.proof_write.specs.Outputs.{Writes};
 
 use crate::line_writer::{LineWriter, write_bare};
@@ -39,8 +42,9 @@ pub(crate) fn earned_by(p: &Problem, x: &Assortment) -> Fraction
     requires model { IsRatioModel p.now.model }
     requires length { length x.now ≡ product_count p.now }
     ensures value { value_numbers p.now x.now ≡ 1 ∷ result.num ∷ result.den ∷ [] }
-    ensures num { result.num < 2 ^ 68 }
-    ensures den { result.den < 2 ^ 38 }
+    ensures prices { own_prices p.now x.now ≡ prices_at p.now result.num result.den }
+    ensures num { result.num < gain_bound }
+    ensures den { (1 ≤ result.den) × (result.den < weight_bound) }
     ensures few { length x.now ≤ most_products }
 {
     let segments = p.segments().len();
@@ -67,8 +71,8 @@ fn write_value<S: Store>(
     writer: &mut LineWriter,
     store: &mut S,
 ) -> Result<(), Failed>
-    requires num { earned.now.num < 2 ^ 68 }
-    requires den { earned.now.den < 2 ^ 38 }
+    requires num { earned.now.num < gain_bound }
+    requires den { earned.now.den < weight_bound }
     requires output { IsTrue (S.view store.old).writing }
     ensures { Writes (S.view store.old) (line Shapes.Value (1 ∷ earned.now.num ∷ earned.now.den ∷ []) ∷ []) result (S.view store.new) }
 {
@@ -84,8 +88,8 @@ pub(crate) fn write_header<S: Store>(
     writer: &mut LineWriter,
     store: &mut S,
 ) -> Result<(), Failed>
-    requires num { earned.now.num < 2 ^ 68 }
-    requires den { earned.now.den < 2 ^ 38 }
+    requires num { earned.now.num < gain_bound }
+    requires den { earned.now.den < weight_bound }
     requires few { length x.now ≤ most_products }
     requires output { IsTrue (S.view store.old).writing }
     ensures { Writes (S.view store.old) (header_lines model x.now (1 ∷ earned.now.num ∷ earned.now.den ∷ [])) result (S.view store.new) }

@@ -2,9 +2,11 @@
 #![tactic(auto)]
 
 mod faults;
-mod free;
 mod header;
+mod leaves;
 mod line_writer;
+mod path;
+mod ratio;
 
 pub use faults::ProofFault;
-pub use free::write_free_proof;
+pub use ratio::write_ratio_proof;

@@ -1,15 +1,15 @@
 ghost use Rattle.std.specs.Prelude.{◌≡◌, ◌+◌, ◌<◌, ◌≤◌, [], ◌∷◌, ◌++◌, length, IsTrue, IfOk};
-ghost use Rattle.proof_lines.specs.Lines.{line, line_text, IsLine};
+ghost use Rattle.proof_lines.specs.Lines.{line, IsLine};
 ghost use Rattle.proof_write.specs.Outputs.{Writes};
 
 use offer_io::{Failed, Store};
-use offer_model::{Bytes, MOST_PRODUCTS, NoMemory, Wide};
+use offer_model::{Bytes, MOST_LIMITS, NoMemory, Wide};
 use proof_lines::{Line, Shape, print_line};
 use std::alloc::Global;
 use std::marker::Model;
 
-/// Room for the text of a line: a set line is the longest, with one digit for each product.
-const LINE_ROOM: usize = 600;
+/// Room for the text of a line: one with a number for each limit is the longest.
+const LINE_ROOM: usize = 40_000;
 
 /// Writes line after line without taking memory. Contracts see the line that is made up.
 #[derive(Drop)]
@@ -33,7 +33,7 @@ impl Model for LineWriter {
 impl LineWriter {
     pub(crate) fn new(alloc: Global) -> Result<LineWriter, NoMemory> {
         let mut numbers = Wide::new(alloc);
-        numbers.reserve(MOST_PRODUCTS)?;
+        numbers.reserve(MOST_LIMITS)?;
         let mut text = Bytes::new(alloc);
         text.reserve(LINE_ROOM)?;
         let made = Line {
@@ -53,7 +53,7 @@ impl LineWriter {
 
     /// Puts a number last in the line.
     pub(crate) fn push(&mut self, number: u128)
-        requires { length self.old.numbers < MOST_PRODUCTS }
+        requires { length self.old.numbers < MOST_LIMITS }
         ensures { self.new ≡ line self.old.shape (self.old.numbers ++ number ∷ []) }
     {
         self.made.numbers.push(number);
@@ -62,7 +62,6 @@ impl LineWriter {
     /// Writes the line.
     pub(crate) fn write<S: Store>(&mut self, store: &mut S) -> Result<(), Failed>
         requires line { IsLine self.old.shape self.old.numbers }
-        requires short { length (line_text self.old.shape self.old.numbers) < LINE_ROOM }
         requires output { IsTrue (S.view store.old).writing }
         ensures { Writes (S.view store.old) (self.old ∷ []) result (S.view store.new) }
     {
@@ -80,10 +79,36 @@ pub(crate) fn write_bare<S: Store>(
     store: &mut S,
 ) -> Result<(), Failed>
     requires line { IsLine shape [] }
-    requires short { length (line_text shape []) < LINE_ROOM }
     requires output { IsTrue (S.view store.old).writing }
     ensures { Writes (S.view store.old) (line shape [] ∷ []) result (S.view store.new) }
 {
     writer.begin(shape);
+    writer.write(store)
+}
+
+/// Makes up a line of these numbers.
+fn fill(shape: Shape, numbers: &Wide, writer: &mut LineWriter)
+    requires { length numbers.now.items ≤ MOST_LIMITS }
+    ensures { writer.new ≡ line shape numbers.now.items }
+{
+    writer.begin(shape);
+    for k in 0..numbers.len() {
+        writer.push(*numbers.get(k));
+    }
+}
+
+/// Writes a line of these numbers.
+pub(crate) fn write_numbers<S: Store>(
+    shape: Shape,
+    numbers: &Wide,
+    writer: &mut LineWriter,
+    store: &mut S,
+) -> Result<(), Failed>
+    requires line { IsLine shape numbers.now.items }
+    requires few { length numbers.now.items ≤ MOST_LIMITS }
+    requires output { IsTrue (S.view store.old).writing }
+    ensures { Writes (S.view store.old) (line shape numbers.now.items ∷ []) result (S.view store.new) }
+{
+    fill(shape, numbers, writer);
     writer.write(store)
 }

@@ -1,13 +1,9 @@
-use Rattle.std.proofs.Common.{◌≡◌, ◌+◌, ◌*◌, ◌^◌}
-use Rattle.std.specs.Prelude.{pos, ◌+ℤ◌, ◌≤ℤ◌}
+use Rattle.std.proofs.Common.{◌≡◌}
+use Rattle.std.specs.Prelude.{◌+ℤ◌}
 use Rattle.offer_model.specs.Nodes.{mark_at}
 use Rattle.offer_model.specs.Prices.{int_sum_below, most_of}
 use Rattle.proof_check.specs.Pricing.{price_in}
 use Rattle.proof_check.proofs.prices.PriceList.greatest.Given as goal
 
 abbrev pub invariant-loop-i : goal.invariant-loop-i
-invariant-loop-i l = record {
-  is : l.sum ≡ l.self.constant +ℤ int_sum_below l.i (λ i. most_of (mark_at l.node i) (price_in l.self i));
-  low : pos 0 ≤ℤ (l.sum +ℤ pos ((l.i + 1) * 2 ^ 110));
-  high : l.sum ≤ℤ pos ((l.i + 1) * 2 ^ 110);
-}
+invariant-loop-i l = l.sum ≡ l.self.constant +ℤ int_sum_below l.i (λ i. most_of (mark_at l.node i) (price_in l.self i))

@@ -9,4 +9,4 @@ returns-clause-leads c =
     let mark : c.mark.result ≡ Open = search rules in
     let here = ap (λ z. mark_at z c.get-number.result.now) (sym c.node-2.ensures) ∙ sym c.mark.ensures ∙ mark in
     branch_at c.args.self.now.problem c.args.self.now.stage c.args.self.now.set c.args.self.now.path c.branch-self.new.self c.args.numbers.now.items c.get-number.result.now c.requires.stage
-    c.requires.progress.model c.requires.progress.free c.requires.node (single c.args.numbers.now.items c.get-number.result.now c.requires.line c.get-number.ensures) here c.branch-self.ensures
+    c.requires.progress.model c.requires.node (single c.args.numbers.now.items c.get-number.result.now c.requires.line c.get-number.ensures) here c.branch-self.ensures

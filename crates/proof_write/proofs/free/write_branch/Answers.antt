@@ -1,9 +1,0 @@
-use Rattle.std.proofs.Common.{arith}
-use Rattle.proof_write.proofs.LineLemmas.{branch_is_line, branch_short}
-use Rattle.proof_write.proofs.free.write_branch.Goals as goal
-
-pub write-requires-clause-line : goal.write-requires-clause-line
-write-requires-clause-line g c = rw c.fill_branch.ensures (branch_is_line c.args.k (omega (arith, c.ranges.k)))
-
-pub write-requires-clause-short : goal.write-requires-clause-short
-write-requires-clause-short g c = rw c.fill_branch.ensures (branch_short c.args.k (omega (arith, c.ranges.k)))
