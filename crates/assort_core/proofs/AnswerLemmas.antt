@@ -3,13 +3,13 @@ use Rattle.std.proofs.Common.{◌≡◌, ◌∙◌, ◌↔◌, ◌≤◌, if◌t
 use Rattle.std.specs.Prelude.{unwrap_or}
 use Rattle.offer_model.specs.Problems.{ProblemData}
 use Rattle.offer_io.specs.Stores.{StoreView, Passes}
-use Rattle.catalogue.specs.Rows.{RowData}
 use Rattle.proof_lines.specs.Acceptance.{Accepts}
-use Rattle.assort_core.specs.declared.usage.Command.TheVariants.{Solve, Check}
+use Rattle.assort_words.specs.declared.usage.Command.TheVariants.{Solve, Check}
 use Rattle.assort_core.specs.declared.check.TheConstants.{MOST_PROOF}
-use Rattle.assort_core.specs.Asked.{RequestData}
-use Rattle.assort_core.specs.Outcomes.{IsAnswerTo, IsVerdict, HasRows, answer, asked_problem, accepted_report, rejected_report, products_name, proof_name}
-use Rattle.assort_core.specs.Runs.{AsksForProof, OthersStand, ProofStands, ProofMayStand, FilesStand, Endures}
+use Rattle.assort_words.specs.Asked.{RequestData}
+use Rattle.assort_core.specs.Judged.{InputsData, asked_problem, proof_name}
+use Rattle.assort_core.specs.Outcomes.{IsAnswerTo, IsVerdict, answer, accepted_report, rejected_report}
+use Rattle.assort_core.specs.Runs.{Gives, AsksForProof, OthersStand, ProofStands, ProofMayStand, FilesStand, Endures}
 
 pub asks_none : (r : RequestData) (name : List ℕ) → r.command ≡ Check → AsksForProof r name → ⊥
 asks_none r name check asks = let e : Solve ≡ Check = sym asks.command ∙ check in cc
@@ -38,15 +38,15 @@ verdict_of true p text report status fits told s e = inr (inl (fits, told.0 refl
 verdict_of false p text report status fits told s e = inr (inr (fits, λ a. let f : IsTrue false = told.1 a in cc, rw (s, e) refl))
 
 -- the verdict over the files that a store tells
-pub check_answer : (r : RequestData) (old mid : StoreView) (rows : List RowData) (p : ProblemData) (name text report : List ℕ) (b : Bool) (status : ℕ)
-    → r.command ≡ Check → Some name ≡ r.proof → p ≡ asked_problem r rows → Passes old mid
-    → (IsTrue old.tells → (bytes : List ℕ) × (old.file (products_name r) ≡ Some bytes) × HasRows bytes rows)
+pub check_answer : (r : RequestData) (old mid : StoreView) (i : InputsData) (p : ProblemData) (name text report : List ℕ) (b : Bool) (status : ℕ)
+    → r.command ≡ Check → Some name ≡ r.proof → p ≡ asked_problem r i → Passes old mid
+    → (IsTrue old.tells → Gives r old i)
     → (IsTrue mid.tells → mid.file name ≡ Some text) → length text ≤ MOST_PROOF → (IsTrue b ↔ Accepts p text)
     → status ≡ (if b then 0 else 1) → report ≡ (if b then accepted_report else rejected_report)
     → IsTrue old.tells → IsAnswerTo r old.file (answer status report)
-check_answer r old mid rows p name text report b status check proof is passes has content fits accepted s e told =
+check_answer r old mid i p name text report b status check proof is passes has content fits accepted s e told =
     let there = has told in
-    rw there.1 (inr (inr (rows, there.2, rw check (rw named judged))))
+    rw there (rw check (rw named judged))
   where
     kept : mid.file name ≡ old.file name
     kept = ap (λ (f : List ℕ → _). f name) (passes.files told).file
@@ -54,5 +54,5 @@ check_answer r old mid rows p name text report b status check proof is passes ha
     named : old.file (proof_name r) ≡ Some text
     named = ap (λ (o : Option (List ℕ)). old.file (unwrap_or o [])) (sym proof) ∙ sym kept ∙ content (rw passes.stays.tells told)
 
-    judged : IsVerdict (asked_problem r rows) text (answer status report)
-    judged = verdict_of b (asked_problem r rows) text report status fits (rw is at accepted) s e
+    judged : IsVerdict (asked_problem r i) text (answer status report)
+    judged = verdict_of b (asked_problem r i) text report status fits (rw is at accepted) s e

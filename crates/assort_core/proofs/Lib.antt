@@ -1,10 +1,5 @@
-pub mod PairLemmas
-pub mod SumLemmas
-pub mod OrderLemmas
-pub mod RatioLemmas
-pub mod TrialLemmas
-pub mod FallLemmas
 pub mod ProofFileLemmas
+pub mod InputLemmas
 pub mod SolveLemmas
 pub mod AnswerLemmas
 pub mod RunLemmas

@@ -4,36 +4,30 @@ use Rattle.offer_model.specs.Problems.{ProblemData}
 use Rattle.offer_model.specs.Best.{IsBest}
 use Rattle.offer_io.specs.Causes.{Rose}
 use Rattle.offer_io.specs.Stores.{StoreView, Passes}
-use Rattle.catalogue.specs.Rows.{RowData}
 use Rattle.proof_lines.specs.Writing.{IsWritten}
 use Rattle.assort_core.specs.declared.stops.Stop.{Stop}
 use Rattle.assort_core.specs.declared.stops.Stop.TheVariants.{UnwrittenProof, NoMemory}
-use Rattle.assort_core.specs.declared.usage.Command.{Command}
-use Rattle.assort_core.specs.declared.usage.Command.TheVariants.{Solve}
-use Rattle.assort_core.specs.Asked.{RequestData}
-use Rattle.assort_core.specs.Outcomes.{IsAnswerTo, IsDone, HasRows, IsBestReport, answer, asked_problem, products_name}
-use Rattle.assort_core.specs.Reports.{problem_report}
-use Rattle.assort_core.specs.Runs.{AsksForProof, IsProofPart, ProofStands, ProofMayStand}
+use Rattle.assort_words.specs.declared.usage.Command.{Command}
+use Rattle.assort_words.specs.declared.usage.Command.TheVariants.{Solve}
+use Rattle.assort_words.specs.Asked.{RequestData}
+use Rattle.assort_core.specs.Judged.{InputsData, asked_problem}
+use Rattle.assort_core.specs.Outcomes.{IsAnswerTo, IsDone, IsBestReport, answer}
+use Rattle.assort_reports.specs.Reports.{problem_report}
+use Rattle.assort_core.specs.Runs.{Gives, AsksForProof, IsProofPart, ProofStands, ProofMayStand}
 use Rattle.assort_core.specs.ProofFiles.{HoldsProof, HoldsPart}
 use Rattle.assort_core.specs.Stops.{WhyStopped}
-
--- the products file has these rows
-abbrev pub RowsAre : RequestData → StoreView → List RowData → Type 0
-RowsAre r store rows = (bytes : List ℕ) × (store.file (products_name r) ≡ Some bytes) × HasRows bytes rows
-
-pub rose_later : (before mid now : ℕ) → before ≤ mid → Rose mid now → Rose before now
-rose_later before mid now later rose = omega arith
+use Rattle.assort_core.proofs.InputLemmas.{rose_later}
 
 -- the answer of a request to solve
-pub solved_answer : (r : RequestData) (store : StoreView) (rows : List RowData) (report : List ℕ) → r.command ≡ Solve → RowsAre r store rows
-    → IsBestReport r rows report → IsAnswerTo r store.file (answer 0 report)
-solved_answer r store rows report solve there best =
-    let P : Command → Type 0 = λ c. IsDone c r rows store.file (answer 0 report) in
-    rw (there.1) (inr (inr (rows, there.2, subst P (sym solve) (report, best, refl))))
+pub solved_answer : (r : RequestData) (store : StoreView) (i : InputsData) (report : List ℕ) → r.command ≡ Solve → Gives r store i
+    → IsBestReport r i report → IsAnswerTo r store.file (answer 0 report)
+solved_answer r store i report solve there best =
+    let P : Command → Type 0 = λ c. IsDone c r i store.file (answer 0 report) in
+    rw there (subst P (sym solve) (report, best, refl))
 
-pub best_report : (r : RequestData) (rows : List RowData) (p : ProblemData) (best : List Bool) (report : List ℕ) → p ≡ asked_problem r rows
-    → IsBest p best → report ≡ problem_report rows p best → IsBestReport r rows report
-best_report r rows p best report e b is = record {
+pub best_report : (r : RequestData) (i : InputsData) (p : ProblemData) (best : List Bool) (report : List ℕ) → p ≡ asked_problem r i
+    → IsBest p best → report ≡ problem_report i.rows p best → IsBestReport r i report
+best_report r i p best report e b is = record {
   best = best;
   is_best = rw e at b;
   report_is = rw e at is;
@@ -60,23 +54,23 @@ proof_unasked r old new none = λ told other asks. let e : Some other ≡ None =
 asked_name : (r : RequestData) (name other : List ℕ) → r.proof ≡ Some name → AsksForProof r other → other ≡ name
 asked_name r name other is asks = let e : Some other ≡ Some name = sym asks.name_is ∙ is in cc
 
-pub proof_stands : (r : RequestData) (old mid new : StoreView) (rows : List RowData) (p : ProblemData) (name : List ℕ) → r.proof ≡ Some name
-    → p ≡ asked_problem r rows → new.tells ≡ old.tells → (IsTrue old.tells → RowsAre r old rows) → HoldsProof p name new → ProofStands r old new
-proof_stands r old mid new rows p name is e tells there holds = λ told other asks.
+pub proof_stands : (r : RequestData) (old mid new : StoreView) (i : InputsData) (p : ProblemData) (name : List ℕ) → r.proof ≡ Some name
+    → p ≡ asked_problem r i → new.tells ≡ old.tells → (IsTrue old.tells → Gives r old i) → HoldsProof p name new → ProofStands r old new
+proof_stands r old mid new i p name is e tells there holds = λ told other asks.
     let h = holds (rw tells told) in
     let t = there told in
-    rw (asked_name r name other is asks) (t.0, t.1, (rows, t.2, (h.0, rw e at h.1, h.2)))
+    rw (asked_name r name other is asks) (i, t, (h.0, rw e at h.1, h.2))
 
-pub proof_may_stand : (r : RequestData) (old mid new : StoreView) (rows : List RowData) (p : ProblemData) (name : List ℕ) → r.proof ≡ Some name
-    → p ≡ asked_problem r rows → Passes old mid → (IsTrue old.tells → RowsAre r old rows) → HoldsPart p name mid new → ProofMayStand r old new
-proof_may_stand r old mid new rows p name is e passes there holds = λ told other asks.
+pub proof_may_stand : (r : RequestData) (old mid new : StoreView) (i : InputsData) (p : ProblemData) (name : List ℕ) → r.proof ≡ Some name
+    → p ≡ asked_problem r i → Passes old mid → (IsTrue old.tells → Gives r old i) → HoldsPart p name mid new → ProofMayStand r old new
+proof_may_stand r old mid new i p name is e passes there holds = λ told other asks.
     let same = (passes.files told).file in
     let t = there told in
     rw (asked_name r name other is asks) (by_case t (holds (rw passes.stays.tells told)) same)
   where
-    by_case : RowsAre r old rows
+    by_case : Gives r old i
         → ((new.file name ≡ mid.file name) ⊎ (new.file name ≡ Some []) ⊎ ((text : List ℕ) × IsWritten p text × ((n : ℕ) × (new.file name ≡ Some (take n text)))))
         → mid.file ≡ old.file → (new.file name ≡ old.file name) ⊎ IsProofPart r old (new.file name)
     by_case t (inl h) same = inl (rw same at h)
     by_case t (inr (inl h)) same = inr (inl h)
-    by_case t (inr (inr h)) same = inr (inr (t.0, t.1, (rows, t.2, (h.0, rw e at h.1, h.2))))
+    by_case t (inr (inr h)) same = inr (inr (i, t, (h.0, rw e at h.1, h.2)))

@@ -1,7 +1,5 @@
-pub mod Asked
 pub mod Lines
-pub mod Trials
-pub mod Reports
+pub mod Judged
 pub mod Outcomes
 pub mod Runs
 pub mod Stops

@@ -1,18 +1,25 @@
 -- The lines for standard error. Own.
-use Rattle.std.specs.Prelude.{ℕ, List, [], ◌++◌, codes, decimal}
-use Rattle.assort_core.specs.declared.usage.Key.{Key}
-use Rattle.assort_core.specs.declared.usage.Key.TheVariants.{Model, Products, NoneWeight, Proof, NoKey}
-use Rattle.assort_core.specs.declared.usage.UsageFault.{UsageFault}
-use Rattle.assort_core.specs.declared.usage.UsageCode.{UsageCode}
-use Rattle.assort_core.specs.declared.usage.UsageCode.TheVariants.{NoCommand, UnknownCommand, UnknownOption, RepeatedOption, MissingValue, Nested, BadValue, MissingOption, ProofIsInput}
+use Rattle.std.specs.Prelude.{ℕ, List, [], ◌++◌, slice_index_or, codes, decimal}
+use Rattle.assort_words.specs.declared.usage.Key.{Key}
+use Rattle.assort_words.specs.declared.usage.Key.TheVariants as key
+use Rattle.assort_words.specs.declared.usage.UsageFault.{UsageFault}
+use Rattle.assort_words.specs.declared.usage.UsageCode.{UsageCode}
+use Rattle.assort_words.specs.declared.usage.UsageCode.TheVariants.{NoCommand, UnknownCommand, UnknownOption, RepeatedOption, MissingValue, Nested, BadValue, MissingOption, ProofIsInput}
+use Rattle.catalogue.specs.declared.faults.FileName.{FileName}
+use Rattle.catalogue.specs.declared.faults.FileName.TheVariants.{Products, Limits, Segments, Arcs, Proof as ProofFile, Offer}
+use Rattle.catalogue.specs.declared.faults.Code.{Code}
+use Rattle.catalogue.specs.declared.faults.Code.TheVariants.{BadName, BadNumber, OutOfRange, RepeatedName, UnknownName, UnknownKind, RepeatedLimit, ShadowAbove, TooManyProducts, TooManyLines, SizesTooGreat, NoArrivals, NoLeaving, UnknownColumn, RepeatedColumn, MissingColumn, FieldCount, TooLarge, WrongLength}
+use Rattle.catalogue.specs.ProductTables.{product_columns}
+use Rattle.catalogue.specs.LimitTables.{limit_columns}
 
 -- A key as it is written.
 abbrev pub key_text : Key → List ℕ
-key_text Model = codes "--model"
-key_text Products = codes "--products"
-key_text NoneWeight = codes "--none"
-key_text Proof = codes "--proof"
-key_text NoKey = []
+key_text key.Model = codes "--model"
+key_text key.Products = codes "--products"
+key_text key.Limits = codes "--limits"
+key_text key.NoneWeight = codes "--none"
+key_text key.Proof = codes "--proof"
+key_text key.NoKey = []
 
 -- What is wrong with the words, without the place.
 abbrev pub cause_text : UsageCode → List ℕ
@@ -42,23 +49,64 @@ place_text f BadValue = codes " at word " ++ decimal f.word
 abbrev pub usage_line : UsageFault → List ℕ
 usage_line f = codes "assort: usage: " ++ cause_text f.code ++ place_text f f.code ++ codes "\n"
 
--- The lines for a products file that is above its limit of bytes, and for one that is no plain table.
-abbrev pub too_large_line : List ℕ
-too_large_line = codes "assort: products: file too large\n"
+-- A file as it is named in a line.
+abbrev pub file_text : FileName → List ℕ
+file_text Products = codes "products"
+file_text Limits = codes "limits"
+file_text Segments = codes "segments"
+file_text Arcs = codes "arcs"
+file_text ProofFile = codes "proof"
+file_text Offer = codes "offer"
 
-abbrev pub not_plain_line : List ℕ
-not_plain_line = codes "assort: products row 1: not a plain table\n"
+-- The name of a file's column.
+abbrev pub column_text : FileName → ℕ → List ℕ
+column_text Products c = slice_index_or product_columns c []
+column_text Limits c = slice_index_or limit_columns c []
+column_text Segments c = []
+column_text Arcs c = []
+column_text ProofFile c = []
+column_text Offer c = []
 
--- The line for a proof that is above its limit of bytes.
-abbrev pub proof_too_large_line : List ℕ
-proof_too_large_line = codes "assort: proof: file too large\n"
+-- What is wrong with a row of a file.
+abbrev pub code_text : Code → List ℕ
+code_text BadName = codes "bad name"
+code_text BadNumber = codes "bad number"
+code_text OutOfRange = codes "out of range"
+code_text RepeatedName = codes "repeated name"
+code_text UnknownName = codes "unknown name"
+code_text UnknownKind = codes "unknown kind"
+code_text RepeatedLimit = codes "repeated limit"
+code_text ShadowAbove = codes "shadow above attraction"
+code_text TooManyProducts = codes "too many products"
+code_text TooManyLines = codes "too many lines"
+code_text SizesTooGreat = codes "sizes too great"
+code_text NoArrivals = codes "no arrivals"
+code_text NoLeaving = codes "no chance of leaving"
+code_text UnknownColumn = codes "unknown column"
+code_text RepeatedColumn = codes "repeated column"
+code_text (MissingColumn c) = codes "missing column "
+code_text FieldCount = codes "wrong number of fields"
+code_text TooLarge = codes "file too large"
+code_text WrongLength = codes "wrong length"
+
+-- The column that is missing.
+abbrev pub missing_text : FileName → Code → List ℕ
+missing_text file (MissingColumn c) = column_text file c
+missing_text file _ = []
+
+-- Where it is: in a row, but for a fault of the whole.
+abbrev pub row_text : ℕ → Code → List ℕ
+row_text row TooLarge = []
+row_text row WrongLength = []
+row_text row _ = codes " row " ++ decimal row
+
+-- The line for a fault of a file.
+abbrev pub fault_line : FileName → ℕ → Code → List ℕ
+fault_line file row code = codes "assort: " ++ file_text file ++ row_text row code ++ codes ": " ++ code_text code ++ missing_text file code ++ codes "\n"
 
 -- The lines for a device that failed, and for want of memory.
-abbrev pub unread_line : List ℕ
-unread_line = codes "assort: cannot read products\n"
-
-abbrev pub unread_proof_line : List ℕ
-unread_proof_line = codes "assort: cannot read proof\n"
+abbrev pub unread_line : FileName → List ℕ
+unread_line file = codes "assort: cannot read " ++ file_text file ++ codes "\n"
 
 abbrev pub unwritten_proof_line : List ℕ
 unwritten_proof_line = codes "assort: cannot write proof\n"

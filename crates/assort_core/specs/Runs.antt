@@ -1,18 +1,21 @@
 -- What a run of the program does to the store and to the two sinks. Own.
-use Rattle.std.specs.Prelude.{◌≡◌, ◌⊎◌, ℕ, ◌≤◌, Bool, List, [], ◌++◌, length, take, Option, Some, IsTrue, Contains}
+use Rattle.std.specs.Prelude.{◌≡◌, ◌⊎◌, ℕ, ◌≤◌, Bool, List, [], ◌++◌, length, take, Option, Some, Ok, IsTrue, Contains}
 use Rattle.offer_io.specs.Causes.{Rose}
 use Rattle.offer_io.specs.Stores.{StoreView, Stays}
 use Rattle.offer_io.specs.Sinks.{SinkView}
+use Rattle.catalogue.specs.declared.faults.FileName.{FileName}
 use Rattle.catalogue.specs.Rows.{RowData}
+use Rattle.catalogue.specs.declared.faults.FileName.TheVariants.{Products, Limits, Segments, Arcs, Proof, Offer}
 use Rattle.offer_model.specs.Best.{IsBest}
 use Rattle.proof_lines.specs.Trees.{Tree}
 use Rattle.proof_lines.specs.Acceptance.{IsAccepted}
 use Rattle.proof_lines.specs.Writing.{IsWritten}
 use Rattle.assort_core.specs.declared.check.TheConstants.{MOST_PROOF}
-use Rattle.assort_core.specs.declared.usage.Command.TheVariants.{Solve, Check}
-use Rattle.assort_core.specs.Asked.{RequestData}
-use Rattle.assort_core.specs.Lines.{unread_line, unread_proof_line, unwritten_line, unwritten_proof_line}
-use Rattle.assort_core.specs.Outcomes.{Outcome, IsOutcome, IsAnswerTo, HasRows, answer, asked_problem, products_name, proof_name}
+use Rattle.assort_words.specs.declared.usage.Command.TheVariants.{Solve, Check}
+use Rattle.assort_words.specs.Asked.{RequestData}
+use Rattle.assort_core.specs.Lines.{unread_line, unwritten_line, unwritten_proof_line}
+use Rattle.assort_core.specs.Judged.{InputsData, given_products, judged, asked_problem, products_name, proof_name}
+use Rattle.assort_core.specs.Outcomes.{Outcome, IsOutcome, IsAnswerTo, answer}
 
 -- A line was written to standard error: whole where its count of faults didn't rise, else a part from the line's front.
 pub record Says (old : SinkView) (line : List ℕ) (new : SinkView) : Type 0 where
@@ -41,21 +44,34 @@ pub record Performs (words : List (List ℕ)) (store : StoreView) (status : ℕ)
   pub prints : Prints out outcome.report out'
   pub says : Says err outcome.line err'
 
--- The products file is told, and has rows.
-abbrev pub HasCatalogue : RequestData → StoreView → Type 0
-HasCatalogue r store =
-    (bytes : List ℕ) × (store.file (products_name r) ≡ Some bytes) × ((rows : List RowData) × HasRows bytes rows)
+-- The request's files are told and have no fault: they give this.
+abbrev pub Gives : RequestData → StoreView → InputsData → Type 0
+Gives r store i = judged r store.file ≡ Some (Ok i)
 
 -- A file that is asked for can't be read: a call of the store failed, and a steady store doesn't hold the name.
 pub record CannotRead (name : List ℕ) (store store' : StoreView) : Type 0 where
   pub cause : Rose store.faults store'.faults
   pub unheld : IsTrue store.steady → Contains store.held name → ⊥
 
--- The proof can't be read: `check` asks for it, and the products file is a plain table.
+-- The limits can't be read: they are asked for, and the products file has no fault.
+pub record CannotReadLimits (r : RequestData) (store store' : StoreView) : Type 0 where
+  pub fails : (name : List ℕ) × (r.limits ≡ Some name) × CannotRead name store store'
+  pub before : IsTrue store.tells → (rows : List RowData) × (given_products r store.file ≡ Some (Ok rows))
+
+-- The proof can't be read: `check` asks for it, and the files before it have no fault.
 pub record CannotReadProof (r : RequestData) (store store' : StoreView) : Type 0 where
   pub asked : r.command ≡ Check
   pub fails : CannotRead (proof_name r) store store'
-  pub before : IsTrue store.tells → HasCatalogue r store
+  pub before : IsTrue store.tells → (i : InputsData) × Gives r store i
+
+-- A file of the request can't be read.
+abbrev pub CannotReadFile : RequestData → FileName → StoreView → StoreView → Type 0
+CannotReadFile r Products store store' = CannotRead (products_name r) store store'
+CannotReadFile r Proof store store' = CannotReadProof r store store'
+CannotReadFile r Limits store store' = CannotReadLimits r store store'
+CannotReadFile r Segments store store' = ⊥
+CannotReadFile r Arcs store store' = ⊥
+CannotReadFile r Offer store store' = ⊥
 
 -- The proof can't be written: `solve` asks for it and has its report, and a call of the store failed, which is not steady.
 pub record CannotWriteProof (r : RequestData) (store store' : StoreView) : Type 0 where
@@ -66,8 +82,7 @@ pub record CannotWriteProof (r : RequestData) (store store' : StoreView) : Type 
 
 -- A call of the store failed, the line says which file it was, and nothing was printed.
 pub record StoreFails (r : RequestData) (store store' : StoreView) (out out' err err' : SinkView) : Type 0 where
-  pub why : (CannotRead (products_name r) store store' × Says err unread_line err')
-      ⊎ (CannotReadProof r store store' × Says err unread_proof_line err')
+  pub why : ((file : FileName) × CannotReadFile r file store store' × Says err (unread_line file) err')
       ⊎ (CannotWriteProof r store store' × Says err unwritten_proof_line err')
   pub silent : out' ≡ out
 
@@ -87,17 +102,16 @@ pub record AsksForProof (r : RequestData) (name : List ℕ) : Type 0 where
   pub command : r.command ≡ Solve
   pub name_is : r.proof ≡ Some name
 
--- The content is a proof for the problem of the products file.
+-- The content is a proof for the problem of the request.
 abbrev pub IsProofFile : RequestData → StoreView → Option (List ℕ) → Type 0
-IsProofFile r store content =
-    (bytes : List ℕ) × (store.file (products_name r) ≡ Some bytes) × ((rows : List RowData) × HasRows bytes rows
-    × ((text : List ℕ) × IsWritten (asked_problem r rows) text × (content ≡ Some text)))
+IsProofFile r store content = (i : InputsData) × Gives r store i
+    × ((text : List ℕ) × IsWritten (asked_problem r i) text × (content ≡ Some text))
 
 -- The content is empty, or a part from the front of such a proof.
 abbrev pub IsProofPart : RequestData → StoreView → Option (List ℕ) → Type 0
 IsProofPart r store content = (content ≡ Some [])
-    ⊎ ((bytes : List ℕ) × (store.file (products_name r) ≡ Some bytes) × ((rows : List RowData) × HasRows bytes rows
-    × ((text : List ℕ) × IsWritten (asked_problem r rows) text × ((n : ℕ) × (content ≡ Some (take n text))))))
+    ⊎ ((i : InputsData) × Gives r store i
+    × ((text : List ℕ) × IsWritten (asked_problem r i) text × ((n : ℕ) × (content ≡ Some (take n text)))))
 
 -- No file changed but a proof that the request asks for.
 abbrev pub OthersStand : RequestData → StoreView → StoreView → Type 0
@@ -121,19 +135,21 @@ pub record Endures (store store' : StoreView) : Type 0 where
   pub later : store.faults ≤ store'.faults
   pub stays : Stays store store'
 
--- The store tells that the products file is a plain table, and for `check` that the proof is there and not too large.
+-- The store tells that the files have no fault, and for `check` that the proof is there and not too large.
 pub record IsAnswerable (r : RequestData) (store : StoreView) : Type 0 where
   pub tells : IsTrue store.tells
-  pub catalogue : HasCatalogue r store
+  pub given : (i : InputsData) × Gives r store i
   pub proof : r.command ≡ Check → (text : List ℕ) × (store.file (proof_name r) ≡ Some text) × (length text ≤ MOST_PROOF)
 
 -- The names of the files that a request reads are held.
 abbrev pub HoldsInputs : RequestData → StoreView → Type 0
-HoldsInputs r store = Contains store.held (products_name r) × (r.command ≡ Check → Contains store.held (proof_name r))
+HoldsInputs r store = Contains store.held (products_name r)
+    × ((name : List ℕ) → r.limits ≡ Some name → Contains store.held name)
+    × (r.command ≡ Check → Contains store.held (proof_name r))
 
 -- The proof that was checked is there, and its assortment is the best one.
 abbrev pub ClaimHolds : RequestData → StoreView → Type 0
 ClaimHolds r store =
-    (bytes : List ℕ) × (store.file (products_name r) ≡ Some bytes) × ((rows : List RowData) × HasRows bytes rows
+    (i : InputsData) × Gives r store i
     × ((text : List ℕ) × (store.file (proof_name r) ≡ Some text)
-    × ((x : List Bool) × (tree : Tree) × IsAccepted (asked_problem r rows) text x tree × IsBest (asked_problem r rows) x)))
+    × ((x : List Bool) × (tree : Tree) × IsAccepted (asked_problem r i) text x tree × IsBest (asked_problem r i) x))

@@ -1,14 +1,13 @@
 ghost use Rattle.std.specs.Prelude.{◌≡◌, ◌<◌, IfOk, IfErr, OnOk, OnErr, IsTrue};
-ghost use Rattle.assort_core.specs.Asked.{IsComplete};
+ghost use Rattle.assort_words.specs.Asked.{IsComplete};
 ghost use Rattle.assort_core.specs.Outcomes.{answer, IsAnswerTo};
 ghost use Rattle.assort_core.specs.Runs.{Endures, OthersStand, ProofStands, ProofMayStand, FilesStand};
 ghost use Rattle.assort_core.specs.Stops.{WhyStopped, status_of};
 
 use crate::check::check;
-use crate::request::Request;
 use crate::solve::{Answer, solve};
 use crate::stops::Stop;
-use crate::usage::Command;
+use assort_words::{Command, Request};
 use offer_io::Store;
 use std::alloc::Global;
 

@@ -3,16 +3,17 @@ ghost use Rattle.offer_model.specs.Validity.{IsRatioModel};
 ghost use Rattle.offer_io.specs.Stores.{Passes};
 ghost use Rattle.proof_lines.specs.Acceptance.{Accepts};
 ghost use Rattle.proof_check.specs.declared.checker.Verdict.TheVariants as said;
-ghost use Rattle.assort_core.specs.declared.usage.Command.TheVariants as command;
-ghost use Rattle.assort_core.specs.Asked.{IsComplete};
-ghost use Rattle.assort_core.specs.Outcomes.{asked_problem, answer, accepted_report, rejected_report, IsAnswerTo};
+ghost use Rattle.assort_words.specs.declared.usage.Command.TheVariants as command;
+ghost use Rattle.assort_words.specs.Asked.{IsComplete};
+ghost use Rattle.assort_core.specs.Outcomes.{answer, accepted_report, rejected_report, IsAnswerTo};
 ghost use Rattle.assort_core.specs.Stops.{WhyStopped};
 
-use crate::inputs::read_inputs;
-use crate::request::Request;
+use crate::inputs::{load_file, read_inputs};
 use crate::solve::Answer;
-use crate::stops::{Stop, proof_stop};
-use offer_io::{Store, load};
+use crate::stops::Stop;
+use assort_words::Request;
+use catalogue::FileName;
+use offer_io::Store;
 use offer_model::{Bytes, NoMemory, Problem};
 use proof_check::{Checker, Verdict};
 use std::alloc::Global;
@@ -29,7 +30,6 @@ fn is_yes(verdict: Verdict) -> bool
 /// Whether the text is accepted for the problem.
 fn is_accepted(alloc: Global, p: &Problem, text: &[u8]) -> Result<bool, NoMemory>
     requires model { IsRatioModel p.now.model }
-    requires free { p.now.limits ≡ [] }
     ensures { IfOk result (λ accepted. IsTrue accepted ↔ Accepts p.now text.now) }
 {
     let mut checker = Checker::for_problem(alloc, p)?;
@@ -77,8 +77,8 @@ pub(crate) fn check<S: Store>(
         Err(stop) => return Err(stop),
         Ok(inputs) => inputs,
     };
-    let text = match load(alloc, store, name, MOST_PROOF) {
-        Err(fault) => return Err(proof_stop(fault)),
+    let text = match load_file(alloc, store, FileName::Proof, name, MOST_PROOF) {
+        Err(stop) => return Err(stop),
         Ok(text) => text,
     };
     let accepted = is_accepted(alloc, &inputs.problem, text.as_slice())?;

@@ -1,43 +1,125 @@
-ghost use Rattle.std.specs.Prelude.{◌≡◌, ◌≤◌, List, ℕ, Some, IfOk, IfErr, IsErrOf, IsTrue, length, ◌⊎◌};
+ghost use Rattle.std.specs.Prelude.{◌≡◌, ◌≢◌, ◌≤◌, List, ℕ, Some, Ok, IfOk, IfErr, IsTrue, length, unwrap_or};
+ghost use Rattle.offer_model.specs.declared.products.ModelName.{ModelName};
+ghost use Rattle.offer_model.specs.declared.products.ModelName.TheVariants as model;
+ghost use Rattle.offer_model.specs.Validity.{HasLimits};
 ghost use Rattle.offer_io.specs.Stores.{Passes};
-ghost use Rattle.catalogue.specs.PlainTables.{IsPlainTable, IsNotPlain};
-ghost use Rattle.catalogue.specs.Records.{records_of};
-ghost use Rattle.assort_core.specs.Asked.{IsComplete};
-ghost use Rattle.assort_core.specs.Outcomes.{asked_problem, products_name, HasRows};
-ghost use Rattle.assort_core.specs.Stops.{WhyStopped};
+ghost use Rattle.catalogue.specs.CatalogueProblems.{KeepsShadows, problem_data_of};
+ghost use Rattle.limit_rules.specs.Kinds.{kind_of};
+ghost use Rattle.limit_rules.specs.declared.kind.Kind.TheVariants as kind;
+ghost use Rattle.assort_words.specs.Asked.{IsComplete};
+ghost use Rattle.assort_core.specs.Judged.{asked_problem, given_products, given_limits};
+ghost use Rattle.assort_core.specs.Runs.{Gives};
+ghost use Rattle.assort_core.specs.Stops.{WhyStopped, WhyUnloaded};
 
-use crate::request::Request;
-use crate::stops::{Stop, products_stop};
-use catalogue::{Catalogue, InputFault, MOST_TABLE, SegmentTable, problem_of, read_products};
-use offer_io::{Store, load};
-use offer_model::{Bytes, Limits, ModelName, NoMemory, Problem};
+use crate::stops::Stop;
+use assort_words::Request;
+use catalogue::{
+    Catalogue, Code, FileName, InputFault, MOST_TABLE, SegmentTable, problem_of, read_limits,
+    read_products,
+};
+use offer_io::{LoadFault, Store, load};
+use offer_model::{Bytes, Limits, NoMemory, Problem};
 use std::alloc::Global;
 
-/// The catalogue and the problem of a request.
+/// What the files of a request give.
 #[derive(Drop)]
 pub(crate) struct Inputs {
     pub(crate) catalogue: Catalogue,
     pub(crate) problem: Problem,
 }
 
-/// The catalogue of the products file.
-fn catalogue_of(alloc: Global, bytes: &Bytes, model: ModelName) -> Result<Catalogue, Stop>
-    requires { length bytes.now.items ≤ MOST_TABLE }
-    ensures rows { IfOk result (IsPlainTable (records_of bytes.now.items)) }
-    ensures not_plain { IsErrOf result Stop.NotPlain → IsNotPlain (records_of bytes.now.items) }
-    ensures stops { IfErr result (λ stop. (stop ≡ Stop.NotPlain) ⊎ (stop ≡ Stop.NoMemory)) }
+/// The bytes of a file that isn't above its limit.
+pub(crate) fn load_file<S: Store>(
+    alloc: Global,
+    store: &mut S,
+    file: FileName,
+    name: &str,
+    most: usize,
+) -> Result<Bytes, Stop>
+    ensures passes { Passes (S.view store.old) (S.view store.new) }
+    ensures content { IfOk result (λ bytes. IsTrue (S.view store.old).tells → (S.view store.old).file name.now ≡ Some bytes.items) }
+    ensures fits { IfOk result (λ bytes. length bytes.items ≤ most) }
+    ensures stopped { IfErr result (WhyUnloaded file name.now most (S.view store.old) (S.view store.new)) }
 {
+    match load(alloc, store, name, most) {
+        Ok(bytes) => Ok(bytes),
+        Err(LoadFault::ReadFault) => Err(Stop::Unread(file)),
+        Err(LoadFault::TooLong) => Err(Stop::Faulty(file, 0, Code::TooLarge)),
+        Err(LoadFault::NoMemory) => Err(Stop::NoMemory),
+    }
+}
+
+/// The catalogue of the products file.
+fn read_catalogue<S: Store>(
+    alloc: Global,
+    request: &Request<'_>,
+    store: &mut S,
+) -> Result<Catalogue, Stop>
+    requires { IsComplete request.now }
+    ensures passes { Passes (S.view store.old) (S.view store.new) }
+    ensures rows { IfOk result (λ c. IsTrue (S.view store.old).tells
+        → given_products request.now (S.view store.old).file ≡ Some (Ok c)) }
+    ensures shadows { IfOk result (λ c. unwrap_or request.now.model model.Logit ≡ model.Attract → KeepsShadows c) }
+    ensures stopped { IfErr result (WhyStopped request.now (S.view store.old) (S.view store.new)) }
+{
+    let Some(name) = request.products() else {
+        unreachable!();
+    };
+    let Some(model) = request.model() else {
+        unreachable!();
+    };
+    let bytes = match load_file(alloc, store, FileName::Products, name, MOST_TABLE) {
+        Err(stop) => return Err(stop),
+        Ok(bytes) => bytes,
+    };
     match read_products(alloc, bytes.as_slice(), model) {
         Ok(catalogue) => Ok(catalogue),
-        Err(InputFault::Fault { .. }) => Err(Stop::NotPlain),
+        Err(InputFault::Fault { file, row, code }) => Err(Stop::Faulty(file, row, code)),
         Err(InputFault::NoMemory) => Err(Stop::NoMemory),
     }
 }
 
-/// The problem of a catalogue.
-fn problem_asked(alloc: Global, request: &Request<'_>, c: &Catalogue) -> Result<Problem, NoMemory>
-    requires { IsComplete request.now }
-    ensures { IfOk result (λ p. p ≡ asked_problem request.now c.now) }
+/// The limits of the limits file, or none where there is no such file.
+#[tactic(auto, using(crate::proofs::InputLemmas::one_kind))]
+fn read_request_limits<S: Store>(
+    alloc: Global,
+    request: &Request<'_>,
+    store: &mut S,
+    c: &Catalogue,
+) -> Result<Limits, Stop>
+    requires before { IsTrue (S.view store.old).tells → given_products request.now (S.view store.old).file ≡ Some (Ok c.now) }
+    ensures passes { Passes (S.view store.old) (S.view store.new) }
+    ensures limits { IfOk result (λ limits. IsTrue (S.view store.old).tells
+        → given_limits request.now (S.view store.old).file c.now ≡ Some (Ok limits.items)) }
+    ensures fit { IfOk result (λ limits. (model : ModelName) (none unit : ℕ) → HasLimits (problem_data_of c.now model none unit limits.items)) }
+    ensures single { IfOk result (λ limits. kind_of limits.items ≢ kind.General) }
+    ensures stopped { IfErr result (WhyStopped request.now (S.view store.old) (S.view store.new)) }
+{
+    let Some(name) = request.limits() else {
+        return Ok(Limits::new(alloc));
+    };
+    let bytes = match load_file(alloc, store, FileName::Limits, name, MOST_TABLE) {
+        Err(stop) => return Err(stop),
+        Ok(bytes) => bytes,
+    };
+    match read_limits(alloc, bytes.as_slice(), c) {
+        Ok(limits) => Ok(limits),
+        Err(InputFault::Fault { file, row, code }) => Err(Stop::Faulty(file, row, code)),
+        Err(InputFault::NoMemory) => Err(Stop::NoMemory),
+    }
+}
+
+/// The problem of a catalogue and limits.
+fn problem_asked(
+    alloc: Global,
+    request: &Request<'_>,
+    c: &Catalogue,
+    limits: &Limits,
+) -> Result<Problem, NoMemory>
+    requires complete { IsComplete request.now }
+    requires shadows { unwrap_or request.now.model model.Logit ≡ model.Attract → KeepsShadows c.now }
+    requires limits { (model : ModelName) (none unit : ℕ) → HasLimits (problem_data_of c.now model none unit limits.now.items) }
+    ensures { IfOk result (λ p. p ≡ asked_problem request.now (record { rows = c.now; limits = limits.now.items })) }
 {
     let Some(model) = request.model() else {
         unreachable!();
@@ -46,8 +128,7 @@ fn problem_asked(alloc: Global, request: &Request<'_>, c: &Catalogue) -> Result<
         unreachable!();
     };
     let segments = SegmentTable::empty(alloc);
-    let limits = Limits::new(alloc);
-    problem_of(alloc, c, model, none, 1, &segments, &limits)
+    problem_of(alloc, c, model, none, 1, &segments, limits)
 }
 
 /// The catalogue and the problem that a request asks for.
@@ -58,25 +139,20 @@ pub(crate) fn read_inputs<S: Store>(
 ) -> Result<Inputs, Stop>
     requires { IsComplete request.now }
     ensures passes { Passes (S.view store.old) (S.view store.new) }
-    ensures problem { IfOk result (λ inputs. inputs.problem ≡ asked_problem request.now inputs.catalogue) }
-    ensures rows { IfOk result (λ inputs. IsTrue (S.view store.old).tells
-        → (bytes : List ℕ) × ((S.view store.old).file (products_name request.now) ≡ Some bytes) × HasRows bytes inputs.catalogue) }
+    ensures problem { IfOk result (λ i. i.problem ≡ asked_problem request.now (record { rows = i.catalogue; limits = i.problem.limits })) }
+    ensures given { IfOk result (λ i. IsTrue (S.view store.old).tells
+        → Gives request.now (S.view store.old) (record { rows = i.catalogue; limits = i.problem.limits })) }
+    ensures single { IfOk result (λ i. kind_of i.problem.limits ≢ kind.General) }
     ensures stopped { IfErr result (WhyStopped request.now (S.view store.old) (S.view store.new)) }
 {
-    let Some(name) = request.products() else {
-        unreachable!();
-    };
-    let Some(model) = request.model() else {
-        unreachable!();
-    };
-    let bytes = match load(alloc, store, name, MOST_TABLE) {
-        Err(fault) => return Err(products_stop(fault)),
-        Ok(bytes) => bytes,
-    };
-    let catalogue = match catalogue_of(alloc, &bytes, model) {
+    let catalogue = match read_catalogue(alloc, request, store) {
         Err(stop) => return Err(stop),
         Ok(catalogue) => catalogue,
     };
-    let problem = problem_asked(alloc, request, &catalogue)?;
+    let limits = match read_request_limits(alloc, request, store, &catalogue) {
+        Err(stop) => return Err(stop),
+        Ok(limits) => limits,
+    };
+    let problem = problem_asked(alloc, request, &catalogue, &limits)?;
     Ok(Inputs { catalogue, problem })
 }

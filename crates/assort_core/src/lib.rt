@@ -4,25 +4,18 @@
 mod answers;
 mod best;
 mod check;
+mod fault_line;
 mod inputs;
 mod proof;
-mod report;
-mod request;
 mod solve;
 mod stops;
 mod top;
-mod usage;
 mod usage_line;
-mod values;
-mod words;
 
-pub use best::best_free;
 pub use check::MOST_PROOF;
-pub use report::report_problem;
-pub use request::Request;
 pub use top::run;
-pub use usage::{Command, Key, UsageCode, UsageFault};
-pub use words::read_words;
 
+#[cfg(test)]
+mod limit_tests;
 #[cfg(test)]
 mod tests;

@@ -1,20 +1,22 @@
-ghost use Rattle.std.specs.Prelude.{◌≡◌, [], length, Some, IfOk, IfErr, OnOk, OnErr, IsErrOf, IsTrue, ◌⊎◌};
+ghost use Rattle.std.specs.Prelude.{◌≡◌, ◌≢◌, [], length, Some, IfOk, IfErr, OnOk, OnErr, IsErrOf, IsTrue, ◌⊎◌};
 ghost use Rattle.offer_model.specs.Best.{IsBest};
 ghost use Rattle.offer_model.specs.Problems.{product_count};
 ghost use Rattle.offer_model.specs.Validity.{IsRatioModel};
-ghost use Rattle.assort_core.specs.declared.usage.Command.TheVariants as command;
-ghost use Rattle.assort_core.specs.Asked.{IsComplete};
-ghost use Rattle.assort_core.specs.Outcomes.{asked_problem, answer, IsAnswerTo, IsBestReport};
-ghost use Rattle.assort_core.specs.Reports.{problem_report};
+ghost use Rattle.limit_rules.specs.Kinds.{kind_of};
+ghost use Rattle.limit_rules.specs.declared.kind.Kind.TheVariants as kind;
+ghost use Rattle.assort_words.specs.declared.usage.Command.TheVariants as command;
+ghost use Rattle.assort_words.specs.Asked.{IsComplete};
+ghost use Rattle.assort_core.specs.Outcomes.{answer, IsAnswerTo};
+ghost use Rattle.assort_reports.specs.Reports.{problem_report};
 ghost use Rattle.assort_core.specs.Runs.{Endures, OthersStand, ProofStands, ProofMayStand, FilesStand};
 ghost use Rattle.assort_core.specs.Stops.{WhyStopped, status_of};
 
-use crate::best::best_free;
+use crate::best::best_assortment;
 use crate::inputs::{Inputs, read_inputs};
 use crate::proof::write_proof;
-use crate::report::report_problem;
-use crate::request::Request;
 use crate::stops::Stop;
+use assort_reports::report_problem;
+use assort_words::Request;
 use offer_io::Store;
 use offer_model::{Assortment, Bytes, NoMemory};
 use std::alloc::Global;
@@ -42,12 +44,12 @@ struct Solution {
 
 fn solution_of(alloc: Global, inputs: &Inputs) -> Result<Solution, NoMemory>
     requires model { IsRatioModel inputs.now.problem.model }
-    requires free { inputs.now.problem.limits ≡ [] }
+    requires kind { kind_of inputs.now.problem.limits ≢ kind.General }
     requires products { product_count inputs.now.problem ≡ length inputs.now.catalogue }
     ensures best { IfOk result (λ s. IsBest inputs.now.problem s.best) }
     ensures report { IfOk result (λ s. s.report.items ≡ problem_report inputs.now.catalogue inputs.now.problem s.best) }
 {
-    let best = best_free(alloc, &inputs.problem)?;
+    let best = best_assortment(alloc, &inputs.problem)?;
     let report = report_problem(alloc, &inputs.catalogue, &inputs.problem, &best)?;
     Ok(Solution { best, report })
 }

@@ -1,17 +1,13 @@
-ghost use Rattle.std.specs.Prelude.{◌≡◌};
-ghost use Rattle.assort_core.specs.Stops.{products_stop, proof_stop};
-
-use offer_io::LoadFault;
+use catalogue::{Code, FileName};
 use offer_model::NoMemory;
 
 /// Why there is no report.
 #[derive(Clone, Copy, Debug, PartialEq, Eq)]
 pub(crate) enum Stop {
-    Unread,
-    TooLarge,
-    NotPlain,
-    UnreadProof,
-    ProofTooLarge,
+    /// A file can't be read.
+    Unread(FileName),
+    /// A row of a file has a fault, or a file is too large.
+    Faulty(FileName, usize, Code),
     UnwrittenProof,
     NoMemory,
 }
@@ -24,27 +20,5 @@ impl From<NoMemory> for Stop {
 
     fn from(_: NoMemory) -> Self {
         Stop::NoMemory
-    }
-}
-
-/// The reason to stop where the products file can't be loaded.
-pub(crate) fn products_stop(fault: LoadFault) -> Stop
-    ensures { result ≡ products_stop fault }
-{
-    match fault {
-        LoadFault::ReadFault => Stop::Unread,
-        LoadFault::TooLong => Stop::TooLarge,
-        LoadFault::NoMemory => Stop::NoMemory,
-    }
-}
-
-/// The reason to stop where the proof can't be loaded.
-pub(crate) fn proof_stop(fault: LoadFault) -> Stop
-    ensures { result ≡ proof_stop fault }
-{
-    match fault {
-        LoadFault::ReadFault => Stop::UnreadProof,
-        LoadFault::TooLong => Stop::ProofTooLarge,
-        LoadFault::NoMemory => Stop::NoMemory,
     }
 }

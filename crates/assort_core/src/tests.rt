@@ -7,20 +7,20 @@ use std::thread::Threads;
 
 /// The status, standard output and standard error of a run.
 #[derive(Drop)]
-struct Said {
-    status: u8,
-    out: Vec<u8>,
-    err: Vec<u8>,
+pub(crate) struct Said {
+    pub(crate) status: u8,
+    pub(crate) out: Vec<u8>,
+    pub(crate) err: Vec<u8>,
 }
 
 /// The call of each sink that fails, 0 for none.
 #[derive(Clone, Copy)]
-struct Failing {
+pub(crate) struct Failing {
     out: u64,
     err: u64,
 }
 
-const NOTHING_FAILS: Failing = Failing { out: 0, err: 0 };
+pub(crate) const NOTHING_FAILS: Failing = Failing { out: 0, err: 0 };
 
 fn sink(alloc: Global, failing: u64) -> Result<MemorySink, Fail> {
     let mut sink = MemorySink::new(alloc);
@@ -38,7 +38,7 @@ fn texts(alloc: Global, line: &str) -> Result<Texts, Fail> {
     Ok(words)
 }
 
-fn run_over<R: Threads + Sync, S: Store>(
+pub(crate) fn run_over<R: Threads + Sync, S: Store>(
     rt: &R,
     alloc: Global,
     line: &str,
@@ -58,13 +58,15 @@ fn run_over<R: Threads + Sync, S: Store>(
 
 const SOLVE_FIVE: &str = "solve --model logit --products p.csv --none 5";
 
+const SOLVE_ATTRACT: &str = "solve --model attract --products p.csv --none 5";
+
 const FIRST: &[u8] = b"name,margin,attraction\nA,10,2\nB,4,3\n";
 
 const FIRST_REPORT: &[u8] = b"model logit\nproducts 2\noffer A\noffer B\nset 11\nvalue 32/10\n";
 
 #[test]
 fn words_and_files_give_status_report_and_line(rt: HostRuntime) -> Result<(), Fail> {
-    let cases: [(&str, &[u8], u8, &[u8], &[u8]); 7] = [
+    let cases: [(&str, &[u8], u8, &[u8], &[u8]); 8] = [
         (SOLVE_FIVE, FIRST, 0, FIRST_REPORT, b""),
         (
             SOLVE_FIVE,
@@ -102,11 +104,18 @@ fn words_and_files_give_status_report_and_line(rt: HostRuntime) -> Result<(), Fa
             b"assort: cannot read products\n",
         ),
         (
-            SOLVE_FIVE,
-            b"name,margin\nA,10\n",
-            3,
+            SOLVE_ATTRACT,
+            b"name,margin,attraction,shadow\nA,10,2,0\nB,4,3,0\nC,3,10,10\n",
+            0,
+            b"model attract\nproducts 3\noffer A\noffer B\noffer C\nset 111\nvalue 62/20\n",
             b"",
-            b"assort: products row 1: not a plain table\n",
+        ),
+        (
+            SOLVE_FIVE,
+            b"attraction,name,margin\n2,A,10\n3,B,4\n",
+            0,
+            FIRST_REPORT,
+            b"",
         ),
     ];
     for (line, products, status, out, err) in cases {
@@ -121,21 +130,73 @@ fn words_and_files_give_status_report_and_line(rt: HostRuntime) -> Result<(), Fa
 }
 
 #[test]
-fn a_catalogue_of_the_greatest_numbers_is_offered_whole(rt: HostRuntime) -> Result<(), Fail> {
+fn a_fault_of_a_file_is_named_by_its_row(rt: HostRuntime) -> Result<(), Fail> {
     let alloc = rt.alloc();
-    let mut products = String::from_str(alloc, "name,margin,attraction\n")?;
-    for i in 0..256u32 {
-        let line = format!(in alloc; "p{i},1000000000,1000000000\n")?;
-        products.push_str(line.as_str())?;
+    let mut many = String::from_str(alloc, "name,margin,attraction\n")?;
+    for i in 0..257u32 {
+        let line = format!(in alloc; "p{i},1,1\n")?;
+        many.push_str(line.as_str())?;
     }
-    let mut store = MemoryStore::new(alloc);
-    store.put("p.csv", products.as_bytes())?;
-    let line = "solve --model logit --products p.csv --none 1";
-    let said = run_over(&rt, rt.alloc(), line, &mut store, NOTHING_FAILS)?;
-    let value = b"value 256000000000000000000/256000000001\n".as_slice();
-    assert_eq!(rt; said.status, 0);
-    assert!(rt; said.out.ends_with(value));
-    assert!(rt; said.out.len() == 3033);
+    let cases: [(&str, &[u8], &[u8]); 10] = [
+        (
+            SOLVE_ATTRACT,
+            b"name,margin,attraction,shadow\nA,1,5,0\nB,1,5,6\nA,1,5,0\n",
+            b"assort: products row 3: shadow above attraction\n",
+        ),
+        (
+            SOLVE_FIVE,
+            b"name,margin,attraction,margin\nA,1,1,1\n",
+            b"assort: products row 1: repeated column\n",
+        ),
+        (
+            SOLVE_FIVE,
+            b"",
+            b"assort: products row 1: missing column name\n",
+        ),
+        (
+            SOLVE_FIVE,
+            b"name,margin,attraction,colour\nA,1,1,red\n",
+            b"assort: products row 1: unknown column\n",
+        ),
+        (
+            SOLVE_FIVE,
+            many.as_bytes(),
+            b"assort: products row 258: too many products\n",
+        ),
+        (
+            SOLVE_FIVE,
+            b"name,margin,attraction\nA,1000000001,1\n",
+            b"assort: products row 2: out of range\n",
+        ),
+        (
+            SOLVE_FIVE,
+            b"name,margin,attraction\nA,-1,1\n",
+            b"assort: products row 2: bad number\n",
+        ),
+        (
+            SOLVE_FIVE,
+            b"name,margin,attraction\nA,1\n",
+            b"assort: products row 2: wrong number of fields\n",
+        ),
+        (
+            SOLVE_FIVE,
+            b"name,attraction\nA,1\n",
+            b"assort: products row 1: missing column margin\n",
+        ),
+        (
+            SOLVE_FIVE,
+            b"name,margin,attraction\nA,1,1\nB,1,1\nA,1,1\n",
+            b"assort: products row 4: repeated name\n",
+        ),
+    ];
+    for (line, products, err) in cases {
+        let mut store = MemoryStore::new(rt.alloc());
+        store.put("p.csv", products)?;
+        let said = run_over(&rt, rt.alloc(), line, &mut store, NOTHING_FAILS)?;
+        assert_eq!(rt; said.status, 3);
+        assert!(rt; said.out.is_empty());
+        assert_eq!(rt; said.err.as_slice(), err);
+    }
     Ok(())
 }
 

@@ -1,16 +1,17 @@
 ghost use Rattle.std.specs.Prelude.{◌≡◌, ◌≢◌, ◌≤◌, ◌<◌, ◌⊎◌, IsTrue, IfOk, IsOkAnd, MatchResult};
 ghost use Rattle.offer_io.specs.Causes.{Rose};
-ghost use Rattle.assort_core.specs.declared.usage.Command.TheVariants as command;
-ghost use Rattle.assort_core.specs.Asked.{asked_of};
+ghost use Rattle.assort_words.specs.declared.usage.Command.TheVariants as command;
+ghost use Rattle.assort_words.specs.Asked.{asked_of};
 ghost use Rattle.assort_core.specs.Lines.{usage_line, memory_line, unwritten_line};
 ghost use Rattle.assort_core.specs.Runs.{Performs, Prints, FailsToPrint, Says, StoreFails, OutFails, IsAnswerable, HoldsInputs, ClaimHolds, OthersStand, ProofStands, ProofMayStand, FilesStand, Endures};
 ghost use Rattle.assort_core.specs.Stops.{status_of, stop_line};
 
 use crate::answers::answer_to;
+use crate::fault_line::{fault_line, unread_line};
 use crate::solve::Answer;
 use crate::stops::Stop;
 use crate::usage_line::usage_line;
-use crate::words::read_words;
+use assort_words::read_words;
 use offer_io::{Gate, Sink, Store};
 use offer_model::Texts;
 use std::alloc::Global;
@@ -30,24 +31,12 @@ fn refuse<E: Sink>(err: &mut E, stop: Stop) -> u8
     ensures line { Says (E.view err.old) (stop_line stop) (E.view err.new) }
 {
     match stop {
-        Stop::Unread => {
-            say(err, b"assort: cannot read products\n");
+        Stop::Unread(file) => {
+            say(err, unread_line(file).as_str().as_bytes());
             4
         }
-        Stop::TooLarge => {
-            say(err, b"assort: products: file too large\n");
-            3
-        }
-        Stop::NotPlain => {
-            say(err, b"assort: products row 1: not a plain table\n");
-            3
-        }
-        Stop::UnreadProof => {
-            say(err, b"assort: cannot read proof\n");
-            4
-        }
-        Stop::ProofTooLarge => {
-            say(err, b"assort: proof: file too large\n");
+        Stop::Faulty(file, row, code) => {
+            say(err, fault_line(file, row, code).as_str().as_bytes());
             3
         }
         Stop::UnwrittenProof => {

@@ -2,8 +2,8 @@ ghost use Rattle.std.specs.Prelude.{◌≡◌, ◌++◌, ◌+◌, ◌≤◌, len
 ghost use Rattle.arrayvec.specs.ArrayString.{array_string_len};
 ghost use Rattle.assort_core.specs.Lines.{key_text, cause_text, place_text, usage_line};
 
-use crate::usage::{Key, UsageCode, UsageFault};
 use arrayvec::ArrayString;
+use assort_words::{Key, UsageCode, UsageFault};
 use itoa::Buffer;
 
 /// A line for standard error. The longest that there is fits.
@@ -16,6 +16,7 @@ fn key_text(key: Key) -> &'static str
     match key {
         Key::Model => "--model",
         Key::Products => "--products",
+        Key::Limits => "--limits",
         Key::NoneWeight => "--none",
         Key::Proof => "--proof",
         Key::NoKey => "",

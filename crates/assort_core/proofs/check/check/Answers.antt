@@ -3,7 +3,7 @@ use Rattle.assort_core.proofs.check.check.Goals as goal
 
 pub returns-clause-answer : goal.returns-clause-answer
 returns-clause-answer g c =
-    check_answer c.args.request.now (g.S.Store.view c.args.store.now) (g.S.Store.view c.read_inputs.new.store) c.in-Ok.inputs.catalogue c.in-Ok.inputs.problem
-    c.in-Some.name.now c.in-Ok-load.text.items c.in_ok-verdict.field-0.report.items c.in_ok-accepted.accepted c.in_ok-verdict.field-0.status
-    c.requires.command c.in-Some.ensures.value c.in-Ok.ensures.problem c.read_inputs.ensures.passes c.in-Ok.ensures.rows c.in-Ok-load.ensures.content
-    c.in-Ok-load.ensures.fits (rw c.as_slice.ensures at c.in_ok-accepted.ensures) c.in_ok-verdict.ensures.status c.in_ok-verdict.ensures.report
+    check_answer c.args.request.now (g.S.Store.view c.args.store.now) (g.S.Store.view c.read_inputs.new.store) (record { rows = c.in-Ok.inputs.catalogue; limits = c.in-Ok.inputs.problem.limits }) c.in-Ok.inputs.problem
+    c.in-Some.name.now c.in-Ok-load_file.text.items c.in_ok-verdict.field-0.report.items c.in_ok-accepted.accepted c.in_ok-verdict.field-0.status
+    c.requires.command c.in-Some.ensures.value c.in-Ok.ensures.problem c.read_inputs.ensures.passes c.in-Ok.ensures.given c.in-Ok-load_file.ensures.content
+    c.in-Ok-load_file.ensures.fits (rw c.as_slice.ensures at c.in_ok-accepted.ensures) c.in_ok-verdict.ensures.status c.in_ok-verdict.ensures.report

@@ -1,0 +1,6 @@
+//! What the commands print, as bytes.
+#![tactic(auto)]
+
+mod report;
+
+pub use report::report_problem;

@@ -1,0 +1,136 @@
+ghost use Rattle.std.specs.Prelude.{◌≡◌, ◌++◌, ◌<◌, length, codes, decimal, OnOk, IfOk};
+ghost use Rattle.offer_model.specs.Problems.{product_count, first_segment};
+ghost use Rattle.offer_model.specs.Revenue.{gain_of, weight_of};
+ghost use Rattle.offer_model.specs.Validity.{IsRatioModel};
+ghost use Rattle.assort_reports.specs.Reports.{model_text, word_text, head_lines, set_line, value_line, digit_of, offer_line, offer_line_if, offer_lines, problem_report};
+
+use catalogue::Catalogue;
+use itoa::Buffer;
+use offer_model::{Assortment, Bytes, ModelName, NoMemory, Problem, gain, weight};
+use std::alloc::Global;
+
+/// Puts a piece last, and makes room for it first.
+fn put(text: &mut Bytes, piece: &[u8]) -> Result<(), NoMemory>
+    ensures { OnOk result (text.new.items ≡ text.old.items ++ piece.now) }
+{
+    text.reserve(piece.len())?;
+    text.push_slice(piece);
+    Ok(())
+}
+
+/// Puts a number last, in decimal.
+fn put_number(text: &mut Bytes, number: u128) -> Result<(), NoMemory>
+    ensures { OnOk result (text.new.items ≡ text.old.items ++ decimal number) }
+{
+    put(text, Buffer::new().format(number).as_bytes())
+}
+
+fn model_text(model: ModelName) -> &'static str
+    ensures { result.now ≡ model_text model }
+{
+    match model {
+        ModelName::Logit => "logit",
+        ModelName::Attract => "attract",
+        ModelName::Mixed => "mixed",
+        ModelName::Chain => "chain",
+    }
+}
+
+fn put_head(text: &mut Bytes, p: &Problem) -> Result<(), NoMemory>
+    ensures { OnOk result (text.new.items ≡ text.old.items ++ head_lines p.now) }
+{
+    put(text, b"model ")?;
+    put(text, model_text(p.model()).as_bytes())?;
+    put(text, b"\nproducts ")?;
+    put_number(text, p.products().len() as u128)?;
+    put(text, b"\n")
+}
+
+fn digit(offered: bool) -> u8
+    ensures { result ≡ digit_of offered }
+{
+    if offered { b'1' } else { b'0' }
+}
+
+fn put_word(text: &mut Bytes, x: &Assortment) -> Result<(), NoMemory>
+    ensures { OnOk result (text.new.items ≡ text.old.items ++ word_text x.now) }
+{
+    if x.len() == 0 {
+        return put(text, b"-");
+    }
+    text.reserve(x.len())?;
+    for i in 0..x.len() {
+        text.push(digit(x.offers(i)));
+    }
+    Ok(())
+}
+
+fn put_set(text: &mut Bytes, x: &Assortment) -> Result<(), NoMemory>
+    ensures { OnOk result (text.new.items ≡ text.old.items ++ set_line x.now) }
+{
+    put(text, b"set ")?;
+    put_word(text, x)?;
+    put(text, b"\n")
+}
+
+fn put_value(text: &mut Bytes, p: &Problem, x: &Assortment) -> Result<(), NoMemory>
+    requires model { IsRatioModel p.now.model }
+    requires length { length x.now ≡ product_count p.now }
+    ensures { OnOk result (text.new.items ≡ text.old.items ++ value_line p.now x.now) }
+{
+    let segments = p.segments().len();
+    prove!(segments == 1);
+    put(text, b"value ")?;
+    put_number(text, gain(p, 0, x))?;
+    put(text, b"/")?;
+    put_number(text, weight(p, 0, x))?;
+    put(text, b"\n")
+}
+
+fn put_offer(text: &mut Bytes, name: &str) -> Result<(), NoMemory>
+    ensures { OnOk result (text.new.items ≡ text.old.items ++ offer_line name.now) }
+{
+    put(text, b"offer ")?;
+    put(text, name.as_bytes())?;
+    put(text, b"\n")
+}
+
+/// Puts a line where the product is offered.
+fn put_offer_if(text: &mut Bytes, offered: bool, name: &str) -> Result<(), NoMemory>
+    ensures { OnOk result (text.new.items ≡ text.old.items ++ offer_line_if offered name.now) }
+{
+    if offered {
+        return put_offer(text, name);
+    }
+    Ok(())
+}
+
+fn put_offers(text: &mut Bytes, c: &Catalogue, x: &Assortment) -> Result<(), NoMemory>
+    requires { length x.now ≡ length c.now }
+    ensures { OnOk result (text.new.items ≡ text.old.items ++ offer_lines c.now x.now) }
+{
+    'offers: for i in 0..c.len() {
+        put_offer_if(text, x.offers(i), c.name(i))?;
+    }
+    Ok(())
+}
+
+/// The report of an assortment, for logit and generalised attraction.
+pub fn report_problem(
+    alloc: Global,
+    c: &Catalogue,
+    p: &Problem,
+    x: &Assortment,
+) -> Result<Bytes, NoMemory>
+    requires model { IsRatioModel p.now.model }
+    requires products { product_count p.now ≡ length c.now }
+    requires length { length x.now ≡ length c.now }
+    ensures { IfOk result (λ text. text.items ≡ problem_report c.now p.now x.now) }
+{
+    let mut text = Bytes::new(alloc);
+    put_head(&mut text, p)?;
+    put_offers(&mut text, c, x)?;
+    put_set(&mut text, x)?;
+    put_value(&mut text, p, x)?;
+    Ok(text)
+}

@@ -1,0 +1,45 @@
+/// What the program is asked to do.
+#[derive(Clone, Copy, Debug, PartialEq, Eq)]
+pub enum Command {
+    Solve,
+    Check,
+}
+
+/// The keys of the command line, in the order in which a missing one is named.
+#[derive(Clone, Copy, Debug, PartialEq, Eq)]
+pub enum Key {
+    Model,
+    Products,
+    Limits,
+    /// `--none`, the weight of buying nothing.
+    NoneWeight,
+    Proof,
+    /// A fault that is about no key has this one.
+    NoKey,
+}
+
+/// Why words are refused.
+#[derive(Clone, Copy, Debug, PartialEq, Eq)]
+pub enum UsageCode {
+    NoCommand,
+    UnknownCommand,
+    UnknownOption,
+    RepeatedOption,
+    MissingValue,
+    /// Nested logit is refused by its name.
+    Nested,
+    BadValue,
+    MissingOption,
+    /// The proof has the name of a file that is read.
+    ProofIsInput,
+}
+
+/// The first refusal of words.
+#[derive(Clone, Copy, Debug, PartialEq, Eq)]
+pub struct UsageFault {
+    pub code: UsageCode,
+    /// Words are counted from 1; 0 where the fault is at no word.
+    pub word: usize,
+    /// The key that is missing, else `NoKey`.
+    pub key: Key,
+}
