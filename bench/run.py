@@ -19,10 +19,10 @@ PROGRAM = os.path.join(HERE, '..', 'crates', 'assort', 'out', 'assort')
 REPEATS = 7
 
 
-def best_time(work):
+def best_time(work, repeats=REPEATS):
     """The least of a few times, in milliseconds, and what the work gave."""
     times = []
-    for _ in range(REPEATS):
+    for _ in range(repeats):
         start = time.perf_counter()
         found = work()
         times.append(time.perf_counter() - start)
@@ -127,26 +127,40 @@ def row(name, products, none, folder):
     return '| ' + ' | '.join(cells) + ' |'
 
 
-def main():
-    options = argparse.ArgumentParser(description=__doc__)
-    options.add_argument('--keep', action='store_true', help='write the run to bench/runs/')
-    keep = options.parse_args().keep
+def options(description):
+    """The options that all measurements have."""
+    found = argparse.ArgumentParser(description=description)
+    found.add_argument('--keep', action='store_true', help='write the run to bench/runs/')
     if not os.path.exists(PROGRAM):
         sys.exit('no program: build it first (rt ci, or tools/assort once)')
-    lines = ['Milliseconds, the least of %d; in brackets how many times the time of solve.' % REPEATS, '', machine(), '',
-             '| input | solve | solve with a certificate | check | its bytes | enumeration in Python | HiGHS | GLPK |', '|---|---|---|---|---|---|---|---|']
+    return found
+
+
+def in_folder(work):
+    """What the work gives in a folder of its own, which goes afterwards."""
     folder = tempfile.mkdtemp()
     try:
-        for case in cases():
-            lines.append(row(*case, folder))
+        return work(folder)
     finally:
         shutil.rmtree(folder)
+
+
+def report(title, lines, name, keep):
+    """Prints the lines, and keeps them in bench/runs/ under the day and the name."""
     print('\n'.join(lines))
     if keep:
-        name = '%s-%s.md' % (datetime.date.today().isoformat(), platform.machine())
+        name = '-'.join([datetime.date.today().isoformat()] + name + [platform.machine()]) + '.md'
         os.makedirs(os.path.join(HERE, 'runs'), exist_ok=True)
         with open(os.path.join(HERE, 'runs', name), 'w') as f:
-            f.write('# solve and check under multinomial logit\n\n' + '\n'.join(lines) + '\n')
+            f.write('# %s\n\n' % title + '\n'.join(lines) + '\n')
+
+
+def main():
+    keep = options(__doc__).parse_args().keep
+    lines = ['Milliseconds, the least of %d; in brackets how many times the time of solve.' % REPEATS, '', machine(), '',
+             '| input | solve | solve with a certificate | check | its bytes | enumeration in Python | HiGHS | GLPK |', '|---|---|---|---|---|---|---|---|']
+    lines += in_folder(lambda folder: [row(*case, folder) for case in cases()])
+    report('solve and check under multinomial logit', lines, [], keep)
 
 
 if __name__ == '__main__':
