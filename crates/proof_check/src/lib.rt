@@ -13,5 +13,7 @@ mod progress;
 mod shelf;
 #[cfg(test)]
 mod tests;
+#[cfg(test)]
+mod worked;
 
 pub use checker::{Checker, Verdict};

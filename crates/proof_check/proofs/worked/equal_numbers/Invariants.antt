@@ -1,5 +1,5 @@
 use Rattle.std.proofs.Common.{◌≡◌, ◌+◌, ◌≤◌, replicate}
-use Rattle.proof_check.proofs.tests.equal_numbers.Given as goal
+use Rattle.proof_check.proofs.worked.equal_numbers.Given as goal
 
 abbrev pub invariant-loop-place : goal.invariant-loop-place
 invariant-loop-place l = record {

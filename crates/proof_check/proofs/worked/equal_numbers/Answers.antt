@@ -1,6 +1,6 @@
 use Rattle.std.proofs.Common.{◌∙◌, ap, arith, ◌++◌, ◌∷◌, []}
 use Rattle.proof_check.proofs.WorkedLemmas.{replicate_more}
-use Rattle.proof_check.proofs.tests.equal_numbers.Goals as goal
+use Rattle.proof_check.proofs.worked.equal_numbers.Goals as goal
 
 pub loop-place-preserved : goal.loop-place-preserved
 loop-place-preserved c = record {
