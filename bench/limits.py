@@ -161,7 +161,7 @@ def row(case, folder):
     cells.append('no linear model' if case.binary else cell(linear, own))
     solution = os.path.join(folder, 'solution')
     for words in (['glpsol', '--lp', path, '-o', solution], ['cbc', path, 'solve', 'quit']):
-        cells.append(cell(solver(words, 60), own, 1 if case.binary else None))
+        cells.append(cell(solver(words, 10), own, 1 if case.binary else None))
     return '| ' + ' | '.join(cells) + ' |'
 
 
@@ -173,7 +173,7 @@ def main():
              'requires': [lambda: requires(256, 512, False), lambda: requires(256, 512, True)],
              'shelf': [lambda: shelf(64), lambda: shelf(256)],
              'ladders': [lambda: ladders(64, 8), lambda: ladders(256, 8)]}
-    lines = ['Milliseconds, the least of %d; in brackets how many times the time of solve. Peers with binary variables run once, at most 60 seconds.' % REPEATS,
+    lines = ['Milliseconds, the least of %d; in brackets how many times the time of solve. Peers with binary variables run once, at most 10 seconds.' % REPEATS,
              '', machine(), '', '| input | solve | solve with a certificate | check | its bytes | HiGHS | GLPK | CBC |', '|---|---|---|---|---|---|---|---|']
     lines += in_folder(lambda folder: [row(make(), folder) for kind in given.kinds or cases for make in cases[kind]])
     report('solve and check under limits', lines, ['limits'], given.keep)

@@ -92,7 +92,7 @@ def machine():
             model = next(line.split(':', 1)[1].strip() for line in f if line.startswith('model name'))
     except (OSError, StopIteration):
         pass
-    return '%s, %d processors, %s' % (model, os.cpu_count() or 0, platform.system())
+    return '%s, %d processors, %s, load %.1f at the start' % (model, os.cpu_count() or 0, platform.system(), os.getloadavg()[0])
 
 
 def cases():
