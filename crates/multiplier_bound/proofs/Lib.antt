@@ -1,0 +1,5 @@
+pub mod PriceLemmas
+pub mod RelaxLemmas
+pub mod CallerLemmas
+pub mod DescentLemmas
+pub mod FullNodeLemmas

@@ -1,0 +1,11 @@
+//! What limits other than ladders cost at given multipliers, and the bound that this gives at a node (Lagrange relaxation).
+#![tactic(auto)]
+
+mod descent;
+mod improving;
+mod multipliers;
+mod prices;
+
+pub use descent::Descent;
+pub use multipliers::Multipliers;
+pub use prices::PriceList;

@@ -1,0 +1,11 @@
+pub mod OrderLemmas
+pub mod CoverLemmas
+pub mod StackLemmas
+pub mod SizeLemmas
+pub mod TaskLemmas
+pub mod RunLemmas
+pub mod WalkLemmas
+pub mod OpenLemmas
+pub mod WeightLemmas
+pub mod SearchLemmas
+pub mod SearchWorkedLemmas

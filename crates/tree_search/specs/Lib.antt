@@ -1,0 +1,11 @@
+pub mod Goals
+pub mod Tasks
+pub mod Turns
+pub mod Rooms
+pub mod Progress
+pub mod Opens
+pub mod WeightGoals
+pub mod WeightLaws
+pub mod SearchFits
+pub mod WorkedGoals
+pub mod WorkedSearches

@@ -1,0 +1,65 @@
+-- The goal of weights keeps the laws of goals. They stand here since the goal's impl can cite only what stands in specs/.
+use Rattle.std.specs.Prelude.{int_lt, ◌≡◌, ℕ, ◌-◌, ◌≤◌, Bool, true, false, cond, List, length, ◌≤ℤ◌}
+use lib.IntN.{ℤ}
+use Rattle.std.proofs.Common.{zero, suc, refl, inl, inr, arith}
+use Rattle.std.specs.Int.{int_min}
+use Rattle.offer_model.specs.declared.node.Mark.{Mark}
+use Rattle.offer_model.specs.declared.node.Mark.TheVariants.{In, Out, Open}
+use Rattle.offer_model.specs.Assortments.{offers}
+use Rattle.offer_model.specs.Problems.{ProblemData, product_count}
+use Rattle.offer_model.specs.Nodes.{mark_at, Agrees, Completes}
+use Rattle.offer_model.proofs.CompletionLemmas.{Completes-agrees, clash_none}
+use Rattle.linear_step.specs.Weights.{WeightsData, prices_of}
+use Rattle.multiplier_bound.specs.Pricing.{PriceListData}
+use Rattle.multiplier_bound.proofs.FullNodeLemmas.{full_feasible, full_completes}
+use Rattle.tree_search.specs.declared.ranking.Ranked.{Ranked}
+use Rattle.tree_search.specs.Goals.{IsLawful}
+use Rattle.tree_search.specs.Opens.{next_is_open}
+use Rattle.tree_search.specs.WeightGoals.{is_opposite, Disagrees, greatest_at, least_greatest, weights_rules, AreBounds}
+
+-- No choice agrees with opposite marks.
+opposite_none : (r m : Mark) (b : Bool) → is_opposite r m ≡ true → Agrees r b → Agrees m b → ⊥
+opposite_none In Out true e a c = cc
+opposite_none In Out false e a c = cc
+opposite_none Out In true e a c = cc
+opposite_none Out In false e a c = cc
+opposite_none In In b e a c = cc
+opposite_none In Open b e a c = cc
+opposite_none Out Out b e a c = cc
+opposite_none Out Open b e a c = cc
+opposite_none Open In b e a c = cc
+opposite_none Open Out b e a c = cc
+opposite_none Open Open b e a c = cc
+
+disagrees_none : (root node : List Mark) (y : List Bool) → Disagrees root node → Completes root y → Completes node y → ⊥
+disagrees_none root node y d a c =
+    opposite_none (mark_at root d.0) (mark_at node d.0) (offers y d.0) d.2 (Completes-agrees root y a d.0) (Completes-agrees node y c d.0)
+
+opposite_of : (r m : Mark) → r ≡ In → m ≡ Out → is_opposite r m ≡ true
+opposite_of r m e f = rw (e, f) refl
+
+opposite_to : (r m : Mark) → r ≡ Out → m ≡ In → is_opposite r m ≡ true
+opposite_to r m e f = rw (e, f) refl
+
+le_int_min : (z a b : ℤ) → z ≤ℤ a → z ≤ℤ b → z ≤ℤ int_min a b
+le_int_min z a b h k = elim (int_lt b a) as (λ v. z ≤ℤ cond v b a) [ true ↦ k | false ↦ h ]
+
+-- What is at most each is at most the least.
+below_least : (p : ProblemData) (lists : List PriceListData) (node : List Mark) (z : ℤ) (k : ℕ) → ((j : ℕ) → j ≤ k → z ≤ℤ greatest_at p lists node j)
+    → z ≤ℤ least_greatest p lists node k
+below_least p lists node z zero h = h 0 (omega arith)
+below_least p lists node z (suc k) h =
+    le_int_min z _ _ (below_least p lists node z k (λ j l. h j (omega arith))) (h (suc k) (omega arith))
+
+pub weights_lawful : (p : ProblemData) (w : WeightsData) (root : List Mark) (lists : List PriceListData) (order : List Ranked) → AreBounds p w lists
+    → length root ≡ product_count p → IsLawful (weights_rules p (prices_of w) root lists order)
+weights_lawful p w root lists order b long = record {
+  clashing = λ node x l k c f. elim k [ inl h ↦ clash_none p node x h f.0 c | inr d ↦ disagrees_none root node x d f.1 c ];
+  full = λ node l full free. (
+    full_feasible p node l full (λ k. free (inl k)),
+    full_completes root node (omega arith) full (λ i h r m. free (inr (i, h, opposite_of _ _ r m))) (λ i h r m. free (inr (i, h, opposite_to _ _ r m))),
+  );
+  bounded = λ node x l c f.
+      below_least p lists node _ (length lists - 1) (λ j m. b.bounds j (let some = b.held.some in omega arith) node x f.0 c);
+  next = λ node l. next_is_open order node;
+}
