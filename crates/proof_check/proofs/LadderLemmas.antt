@@ -79,7 +79,7 @@ beside_within Open false z w = part z w
     part (pos n) w = w
     part (negsuc n) w = (omega (arith, ints), omega (arith, ints))
 
-within_sum : (n : ℕ) (f : ℕ → ℤ) → ((i : ℕ) → i < n → IsWithin (2 ^ 98) (f i)) → IsWithin (n * 2 ^ 98 + 1) (int_sum_below n f)
+pub within_sum : (n : ℕ) (f : ℕ → ℤ) → ((i : ℕ) → i < n → IsWithin (2 ^ 98) (f i)) → IsWithin (n * 2 ^ 98 + 1) (int_sum_below n f)
 within_sum zero f w = (omega (arith, ints), omega (arith, ints))
 within_sum (suc n) f w =
     let before = within_sum n f (λ i l. w i (omega arith)) in

@@ -1,9 +1,8 @@
 pub mod PathLemmas
 pub mod ListLemmas
-pub mod PriceLemmas
-pub mod RelaxLemmas
 pub mod LadderLemmas
 pub mod SpaceLemmas
+pub mod KeptLemmas
 pub mod LeafLemmas
 pub mod LeadLemmas
 pub mod FeedingLemmas

@@ -1,5 +1,5 @@
 -- The worked problems are problems.
-use Rattle.std.proofs.Common.{◌≡◌, ℕ, zero, suc, ◌<◌, ◌≤◌, List, [], ◌∷◌, length, replicate, refl, sym, ap, ◌∙◌, ◌+◌, ◌++◌, add-one, arith, rules, All}
+use Rattle.std.proofs.Common.{◌≡◌, ℕ, zero, suc, ◌≤◌, List, [], ◌∷◌, length, replicate, refl, sym, ap, ◌∙◌, ◌+◌, ◌++◌, add-one, arith, rules, All}
 use Rattle.std.specs.Prelude.{slice_index}
 use Rattle.std.proofs.lemmas.List.{length-replicate}
 use Rattle.std.proofs.lemmas.List.Kept.{AllPairs-cons}
@@ -9,7 +9,7 @@ use Rattle.std.specs.List.{AllByRecursion}
 use Rattle.offer_model.specs.declared.products.Product.{Product}
 use Rattle.offer_model.specs.declared.products.Limit.{Limit}
 use Rattle.offer_model.specs.declared.products.Limit.TheVariants.{Total, Requires, Shelf, Ladder}
-use Rattle.offer_model.specs.Problems.{SegmentData, ProblemData, shadow_of}
+use Rattle.offer_model.specs.Problems.{ProblemData, shadow_of}
 use Rattle.offer_model.specs.Validity.{IsPositiveAmount, IsProduct, IsSegment, IsInRange, NamesExisting, Repeats, IsProblem, HasLimits, is_requires}
 use Rattle.proof_check.specs.WorkedProblems.{even_segment, even_problem, one_of_two, three_chained, three_on_shelf, three_on_ladder}
 

@@ -1,30 +1,21 @@
 -- The room that leaves of a problem are judged in. Own.
-use Rattle.std.specs.Prelude.{◌≡◌, ℕ, ◌+◌, ◌↔◌, Bool, List, length, Option, Some, None}
+use Rattle.std.specs.Prelude.{◌≡◌, ℕ, ◌+◌, ◌≤◌, ◌↔◌, Bool, true, List, length, Option, Some, None}
 use lib.IntN.{ℤ}
 use Rattle.offer_model.specs.Problems.{ProblemData, product_count}
-use Rattle.offer_model.specs.Validity.{IsProblem}
-use Rattle.offer_model.specs.LeafBounds.{priced_limits, MultipliersFit, shelf_space}
+use Rattle.offer_model.specs.LeafBounds.{shelf_space}
 use Rattle.offer_model.specs.declared.node.Mark.{Mark}
+use Rattle.offer_model.specs.declared.ranges.TheConstants.{MOST_PRODUCTS}
 use Rattle.offer_model.specs.Prices.{Prices}
+use Rattle.shelf_table.specs.Tables.{space_of, price_in, IsTableOf}
+use Rattle.shelf_table.specs.Rooms.{AreSpaces}
 use Rattle.proof_lines.specs.declared.line.Shape.{Shape}
-use Rattle.proof_lines.specs.Lines.{AreNumbers}
 use Rattle.proof_lines.specs.Closing.{BoundCloses, PricesClose}
+use Rattle.proof_check.specs.declared.kept_table.KeptTable.{KeptTable}
 use Rattle.proof_check.specs.declared.leaf.Leaves.{Leaves}
-use Rattle.proof_check.specs.declared.multipliers.Multipliers.{Multipliers}
 use Rattle.proof_check.specs.declared.potentials.Potentials.{Potentials}
 use Rattle.proof_check.specs.declared.shelf.ShelfRow.{ShelfRow}
+use Rattle.multiplier_bound.specs.Fits.{HasLists}
 use Rattle.proof_check.specs.Potentials.{AreLimited}
-
--- The limits that have a multiplier, and a price for each product.
-pub record HasLists (p : ProblemData) (s : Multipliers) : Type 0 where
-  pub priced : s.priced.items ≡ priced_limits p
-  pub each : length s.changed.each.items ≡ product_count p
-
--- Multipliers that a line may have and that fit.
-pub record AreFit (p : ProblemData) (us : List ℕ) : Type 0 where
-  pub valid : IsProblem p
-  pub fit : MultipliersFit p us
-  pub numbers : AreNumbers us
 
 -- The products on limited ladders, and a place for each product.
 pub record HasSets (p : ProblemData) (s : Potentials) : Type 0 where
@@ -39,6 +30,21 @@ cells_for (Some space) = space + 1
 abbrev pub HasCells : ProblemData → ShelfRow → Type 0
 HasCells p s = length s.best.items ≡ cells_for (shelf_space p.limits)
 
+-- The shelf's space, 0 without one.
+abbrev pub space_for : Option ℕ → ℕ
+space_for None = 0
+space_for (Some space) = space
+
+-- The kept table is for the problem's products, their spaces and the shelf's. Once it is filled it is that of the kept
+-- prices.
+pub record HasTable (p : ProblemData) (s : KeptTable) : Type 0 where
+  pub spaces : AreSpaces p s.spaces.items
+  pub prices : length s.prices.items ≡ product_count p
+  pub products : s.table.products ≡ product_count p
+  pub few : s.table.products ≤ MOST_PRODUCTS
+  pub space : s.table.space ≡ space_for (shelf_space p.limits)
+  pub filled : s.filled ≡ true → IsTableOf s.table (space_of p) (price_in s.prices.items)
+
 -- The leaf closes the node exactly where this bound does, whatever the assortment.
 abbrev pub ClosesBy : ProblemData → Prices → List Mark → Shape → List ℕ → Option ℤ → Type 0
 ClosesBy p at node shape us bound = (x : List Bool) → PricesClose p x node shape us at ↔ BoundCloses x node bound
@@ -46,4 +52,5 @@ ClosesBy p at node shape us bound = (x : List Bool) → PricesClose p x node sha
 pub record HasRoom (p : ProblemData) (leaves : Leaves) : Type 0 where
   pub multipliers : HasLists p leaves.multipliers
   pub potentials : HasSets p leaves.potentials
+  pub kept : HasTable p leaves.kept
   pub shelf : HasCells p leaves.shelf

@@ -1,5 +1,4 @@
 pub mod Paths
-pub mod Pricing
 pub mod Potentials
 pub mod Shelves
 pub mod Leaves

@@ -1,8 +1,8 @@
-ghost use Rattle.std.specs.Prelude.{◌≡◌, ℕ, ◌+◌, ◌<◌, ◌≤◌, ◌↔◌, List, [], ◌∷◌, ◌++◌, length, IsTrue, IfOk};
+ghost use Rattle.std.specs.Prelude.{◌≡◌, ℕ, ◌+◌, ◌<◌, ◌↔◌, List, [], ◌∷◌, ◌++◌, IsTrue, IfOk};
 ghost use Rattle.offer_model.specs.Validity.{IsRatioModel};
 ghost use Rattle.proof_lines.specs.Acceptance.{Accepts};
 ghost use Rattle.proof_check.specs.Waiting.{Takes, LeadsBy};
-ghost use Rattle.proof_check.specs.Stages.{phase_of, IsProgress};
+ghost use Rattle.proof_check.specs.Stages.{phase_of};
 
 use crate::progress::Progress;
 use offer_model::{Bytes, NoMemory, Problem, Wide};

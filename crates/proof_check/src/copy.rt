@@ -1,5 +1,4 @@
 ghost use Rattle.std.specs.Prelude.{◌≡◌, length, IfOk};
-ghost use Rattle.offer_model.specs.Problems.{product_count};
 ghost use Rattle.offer_model.specs.Validity.{IsRatioModel};
 
 use offer_model::{Limits, NoMemory, Numbers, Problem, Products, Segment, Segments};

@@ -1,19 +1,19 @@
 ghost use Rattle.std.specs.Prelude.{◌≡◌, ◌↔◌, [], length, IfOk, IsTrue};
-ghost use Rattle.offer_model.specs.Assortments.{IsBefore};
 ghost use Rattle.offer_model.specs.Problems.{product_count};
 ghost use Rattle.offer_model.specs.Validity.{IsProblem, IsRatioModel};
-ghost use Rattle.offer_model.specs.Nodes.{is_in, fill_of, Clashes};
+ghost use Rattle.offer_model.specs.Nodes.{is_in};
 ghost use Rattle.proof_lines.specs.Lines.{AreNumbers, IsLine};
-ghost use Rattle.proof_lines.specs.Closing.{ComesAfter, BoundCloses, PricesClose, Closes};
+ghost use Rattle.proof_lines.specs.Closing.{ComesAfter, BoundCloses, Closes};
 ghost use Rattle.linear_step.specs.Weights.{prices_of, AreWeights};
 ghost use Rattle.proof_check.specs.Leaves.{HasRoom, ClosesBy};
 ghost use Rattle.proof_check.specs.Stages.{AreOwnWeights};
 
-use crate::multipliers::Multipliers;
+use crate::kept_table::{KeptTable, settled_first};
 use crate::potentials::Potentials;
 use crate::shelf::ShelfRow;
 use limit_rules::clashes;
 use linear_step::Weights;
+use multiplier_bound::Multipliers;
 use offer_model::{Assortment, Mark, NoMemory, Node, Problem, Wide};
 use proof_lines::Shape;
 use std::alloc::Global;
@@ -23,6 +23,7 @@ use std::alloc::Global;
 pub(crate) struct Leaves {
     multipliers: Multipliers,
     potentials: Potentials,
+    kept: KeptTable,
     shelf: ShelfRow,
 }
 
@@ -66,6 +67,7 @@ impl Leaves {
         Ok(Leaves {
             multipliers: Multipliers::new(alloc, p)?,
             potentials: Potentials::new(alloc, p)?,
+            kept: KeptTable::new(alloc, p)?,
             shelf: ShelfRow::new(alloc, p)?,
         })
     }
@@ -92,7 +94,8 @@ impl Leaves {
         Some(self.multipliers.bound(p, weights, node, numbers))
     }
 
-    /// The bound of the shelf's table, where the node doesn't clash.
+    /// The bound of the shelf's table, where the node doesn't clash: by the kept table where the settled products come
+    /// first, else by a row of its own.
     fn by_shelf(&mut self, p: &Problem, weights: &Weights, node: &Node) -> Option<i128>
         requires room { HasRoom p.now self.old }
         requires weights { AreWeights p.now weights.now }
@@ -103,7 +106,10 @@ impl Leaves {
         if clashes(p, node) {
             return None;
         }
-        self.shelf.bound(p, weights, node)
+        match settled_first(node) {
+            Some(k) => self.kept.bound(p, weights, node, k),
+            None => self.shelf.bound(p, weights, node),
+        }
     }
 
     /// The bound of potentials, where they may be the potentials at the node and it doesn't clash.

@@ -3,12 +3,11 @@
 
 mod checker;
 mod copy;
+mod kept_table;
 mod leaf;
-mod multipliers;
 mod numbers;
 mod path;
 mod potentials;
-mod prices;
 mod progress;
 mod shelf;
 #[cfg(test)]

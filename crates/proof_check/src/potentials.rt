@@ -1,15 +1,14 @@
-ghost use Rattle.std.specs.Prelude.{◌≡◌, ℕ, List, ◌∷◌, ◌+◌, ◌*◌, ◌<◌, ◌≤◌, ◌^◌, ◌↔◌, length, pos, ◌+ℤ◌, slice_index, IfOk, IsTrue};
+ghost use Rattle.std.specs.Prelude.{◌≡◌, ℕ, List, ◌∷◌, ◌+◌, ◌*◌, ◌<◌, ◌≤◌, ◌^◌, ◌↔◌, length, IfOk, IsTrue};
 ghost use Rattle.offer_model.specs.Assortments.{offers};
-ghost use Rattle.offer_model.specs.Problems.{product_count, product_at};
+ghost use Rattle.offer_model.specs.Problems.{product_count};
 ghost use Rattle.offer_model.specs.Limits.{MayStand};
-ghost use Rattle.offer_model.specs.LeafBounds.{is_limited, ladder_of, IsUsable, Rises, PotentialsFit, ladder_top, ladder_tops, most_beside, potentials_bound};
+ghost use Rattle.offer_model.specs.LeafBounds.{is_limited, IsUsable, Rises, PotentialsFit, ladder_top, ladder_tops, most_beside, potentials_bound};
 ghost use Rattle.proof_lines.specs.Lines.{AreNumbers};
 ghost use Rattle.linear_step.specs.Weights.{weight_at, prices_of, IsWithin, AreWeights};
 ghost use Rattle.proof_check.specs.Potentials.{AreLimited, AreUsable, IsBeside, FitsBeside, IsRise, Covers, CoversRises, IsPotential, worth_beside};
 ghost use Rattle.proof_check.specs.Leaves.{HasSets};
 
-use crate::numbers::{number_at, signed};
-use crate::prices::plus;
+use crate::numbers::{number_at, plus, signed};
 use limit_rules::may_stand;
 use linear_step::Weights;
 use offer_model::{Assortment, Limit, Mark, NoMemory, Node, Problem, Product, Wide};

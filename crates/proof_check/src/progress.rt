@@ -1,4 +1,4 @@
-ghost use Rattle.std.specs.Prelude.{◌≡◌, ◌≤◌, ◌<◌, ◌↔◌, [], ◌∷◌, length, IsTrue, IfOk};
+ghost use Rattle.std.specs.Prelude.{◌≡◌, ◌≤◌, ◌<◌, ◌↔◌, [], length, IsTrue, IfOk};
 ghost use Rattle.offer_model.specs.Problems.{product_count, first_segment};
 ghost use Rattle.offer_model.specs.Limits.{IsFeasible};
 ghost use Rattle.offer_model.specs.Ranges.{gain_bound, weight_bound};

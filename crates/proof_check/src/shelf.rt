@@ -1,13 +1,13 @@
-ghost use Rattle.std.specs.Prelude.{◌≡◌, ℕ, ◌+◌, ◌<◌, ◌≤◌, ◌^◌, true, length, pos, ◌+ℤ◌, IfOk};
+ghost use Rattle.std.specs.Prelude.{◌≡◌, ℕ, ◌+◌, ◌<◌, ◌≤◌, ◌^◌, true, length, IfOk, IfSome};
 ghost use Rattle.offer_model.specs.Problems.{product_count};
 ghost use Rattle.offer_model.specs.LeafBounds.{greater_of, raised_by, leaving_out, offering, best_in_space, shelf_space, shelf_bound};
 ghost use Rattle.linear_step.specs.Weights.{weight_at, prices_of, IsWithin, AreWeights};
 ghost use Rattle.proof_check.specs.Shelves.{cell, IsRow, IsSmall};
 ghost use Rattle.proof_check.specs.Leaves.{cells_for, HasCells};
 
-use crate::prices::plus;
+use crate::numbers::plus;
 use linear_step::Weights;
-use offer_model::{Limit, Limits, Mark, NoMemory, Node, Problem};
+use offer_model::{Limit, Limits, MOST_COUNT, Mark, NoMemory, Node, Problem};
 use std::alloc::Global;
 
 /// One row of the table over products and space: a cell for each amount of space up to the shelf's. Without a shelf it is
@@ -29,13 +29,24 @@ fn shelf_space(limits: &Limits) -> Option<u64>
     None
 }
 
+/// The space of the problem's shelf.
+pub(crate) fn shelf(p: &Problem) -> Option<usize>
+    ensures value { result ≡ shelf_space p.now.limits }
+    ensures bound { IfSome result (λ space. space ≤ MOST_COUNT) }
+{
+    match shelf_space(p.limits()) {
+        Some(space) => Some(space as usize),
+        None => None,
+    }
+}
+
 /// The number of cells in a row.
 fn cell_count(p: &Problem) -> usize
     ensures value { result ≡ cells_for (shelf_space p.now.limits) }
     ensures bound { result ≤ 1001 }
 {
-    match shelf_space(p.limits()) {
-        Some(space) => space as usize + 1,
+    match shelf(p) {
+        Some(space) => space + 1,
         None => 0,
     }
 }

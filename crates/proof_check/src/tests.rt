@@ -161,6 +161,11 @@ fn leaves_under_limits_are_judged(rt: HostRuntime) {
             "b 2\nb 1\nt\nt\nt\nend\n",
             Verdict::Yes,
         ),
+        (
+            Worked::ThreeOnShelf,
+            "b 0\nt\nb 2\nb 1\nt\nt\nt\nend\n",
+            Verdict::Yes,
+        ),
         (Worked::ThreeOnShelf, "b 0\nt\nt\nend\n", Verdict::No),
         (Worked::ThreeOnShelf, "t\nend\n", Verdict::No),
         (

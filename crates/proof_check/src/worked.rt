@@ -1,6 +1,6 @@
 //! Small problems, one for each kind of limits, and the headers of their certificates.
 
-ghost use Rattle.std.specs.Prelude.{◌≡◌, ◌<◌, ◌≤◌, [], ◌∷◌, length, replicate, IfOk};
+ghost use Rattle.std.specs.Prelude.{◌≡◌, ◌<◌, ◌≤◌, [], ◌∷◌, replicate, IfOk};
 ghost use Rattle.offer_model.specs.Validity.{IsPositiveAmount, IsProblem};
 ghost use Rattle.offer_model.specs.WorkedValues.{plain_product};
 ghost use Rattle.proof_check.specs.WorkedProblems.{wide_product, graded_product, even_segment, even_problem, one_of_two, three_chained, three_on_shelf, three_on_ladder};

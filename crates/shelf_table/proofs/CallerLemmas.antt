@@ -1,7 +1,7 @@
 -- Laws of the table for callers' proofs: how the best of a room follows from the next product's, and the bound of a
 -- shelf's leaf by what is In and the best of the rest.
 use Rattle.std.proofs.Common.{◌≡◌, ◌≢◌, ℕ, zero, suc, ◌+◌, ◌-◌, ◌<◌, ◌≤◌, Bool, true, false, cond, List, [], ◌∷◌, Option, Some, None, refl, sym, ap, arith, subst, inl, inr, ◌∙◌, leb}
-use Rattle.std.specs.Prelude.{pos, ◌+ℤ◌, ◌≤ℤ◌, ◌<ℤ◌, nat_le, ◌⊎◌}
+use Rattle.std.specs.Prelude.{pos, ◌+ℤ◌, ◌≤ℤ◌, nat_le, ◌⊎◌}
 use Rattle.std.specs.Int.{int_max}
 use Rattle.std.proofs.lemmas.Int.{ints, clamps, by_lt_z}
 use Rattle.std.proofs.lemmas.Bool.Decides.{nat_tests}
@@ -13,7 +13,7 @@ use Rattle.offer_model.specs.Problems.{ProblemData, product_count}
 use Rattle.offer_model.specs.Revenue.{sum_offered}
 use Rattle.offer_model.specs.Nodes.{mark_at, is_in, fill_of, Agrees, settled_node}
 use Rattle.offer_model.specs.Prices.{Prices, int_sum_below, worth_of}
-use Rattle.offer_model.specs.LeafBounds.{greater_of, raised_by, best_in_space, shelf_space, bound_in_space, shelf_bound}
+use Rattle.offer_model.specs.LeafBounds.{greater_of, raised_by, best_in_space, shelf_space, shelf_bound}
 use Rattle.offer_model.proofs.ShelfLemmas.{Reaches, in_space_step}
 use Rattle.shelf_table.specs.Tables.{space_of, better_of, best_of, best_from, free_price, free_prices}
 

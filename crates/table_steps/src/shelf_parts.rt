@@ -1,5 +1,4 @@
-ghost use Rattle.std.specs.Prelude.{◌≡◌, ◌≢◌, ℕ, ◌+◌, ◌<◌, ◌≤◌, [], ◌∷◌, false, length, IfOk};
-ghost use Rattle.offer_model.specs.declared.node.Mark.TheVariants.{Open};
+ghost use Rattle.std.specs.Prelude.{◌≡◌, ℕ, ◌<◌, ◌≤◌, [], ◌∷◌, false, length};
 ghost use Rattle.offer_model.specs.declared.products.Limit.TheVariants.{Shelf};
 ghost use Rattle.offer_model.specs.Problems.{product_count};
 ghost use Rattle.offer_model.specs.Nodes.{mark_at};
@@ -7,12 +6,10 @@ ghost use Rattle.limit_rules.specs.Kinds.{kind_of};
 ghost use Rattle.limit_rules.specs.declared.kind.Kind.TheVariants as K;
 ghost use Rattle.linear_step.specs.Weights.{AreWeights, weight_at};
 ghost use Rattle.shelf_table.specs.Tables.{space_of, price_in, free_price, free_prices, IsSmallPrice, IsTableOf};
-ghost use Rattle.table_steps.specs.ShelfFits.{AreSpaces, IsRoomLeft};
 
 use linear_step::Weights;
-use offer_model::{Limit, MOST_COUNT, Mark, NoMemory, Node, Problem};
+use offer_model::{Limit, MOST_COUNT, Mark, Node, Problem};
 use shelf_table::ShelfTable;
-use std::alloc::Global;
 
 /// The space of the shelf, which is the only limit.
 pub fn shelf_of(p: &Problem) -> usize
@@ -24,49 +21,6 @@ pub fn shelf_of(p: &Problem) -> usize
         Limit::Shelf(space) => space as usize,
         _ => 0,
     }
-}
-
-/// The space that each product takes.
-pub fn spaces_of(alloc: Global, p: &Problem) -> Result<Vec<usize>, NoMemory>
-    ensures { IfOk result (λ v. AreSpaces p.now v.items) }
-{
-    let count = p.products().len();
-    let mut spaces = vec![in alloc; 0; count]?;
-    for i in 0..count {
-        spaces[i] = p.products().get(i).space as usize;
-    }
-    Ok(spaces)
-}
-
-/// The room that what is In leaves on the shelf; `None` where it doesn't fit.
-pub fn room_left(spaces: &[usize], shelf: usize, node: &Node) -> Option<usize>
-    requires { length node.now ≡ length spaces.now }
-    ensures { IsRoomLeft spaces.now shelf node.now result }
-{
-    let mut room = shelf;
-    for i in 0..spaces.len() {
-        if node.mark(i) != Mark::In {
-            continue;
-        }
-        if spaces[i] > room {
-            return None;
-        }
-        room -= spaces[i];
-    }
-    Some(room)
-}
-
-/// The first Open product, or the number of products.
-pub fn first_open(node: &Node) -> usize
-    ensures inside { result ≤ length node.now }
-    ensures settled { (i : ℕ) → i < result → mark_at node.now i ≢ Open }
-{
-    for i in 0..node.len() {
-        if node.mark(i) == Mark::Open {
-            return i;
-        }
-    }
-    node.len()
 }
 
 /// The price of product `i` in a table that is read from product `start` on: its weight, and from `start` on nothing

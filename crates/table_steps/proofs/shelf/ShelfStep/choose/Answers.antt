@@ -8,7 +8,8 @@ use Rattle.offer_model.specs.Nodes.{fill_of}
 use Rattle.linear_step.specs.Weights.{weight_at}
 use Rattle.shelf_table.specs.Tables.{space_of}
 use Rattle.table_steps.specs.ShelfReading.{best_sum}
-use Rattle.table_steps.proofs.ShelfLemmas.{room_is, read_settled, cells_are, fits_step, take_step, leave_step, space_read}
+use Rattle.shelf_table.proofs.RoomLemmas.{room_is}
+use Rattle.table_steps.proofs.ShelfLemmas.{read_settled, cells_are, fits_step, take_step, leave_step, space_read}
 use Rattle.table_steps.proofs.shelf.ShelfStep.choose.Goals.{then-best_from, else-best_from}
 use Rattle.table_steps.proofs.shelf.ShelfStep.choose.Goals as goal
 

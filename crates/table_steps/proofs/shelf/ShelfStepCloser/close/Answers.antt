@@ -1,8 +1,8 @@
 use Rattle.std.proofs.Common.{subst}
 use Rattle.std.specs.Prelude.{Some, None}
 use Rattle.linear_step.specs.Weights.{prices_of}
-use Rattle.table_steps.specs.ShelfFits.{IsRoomLeft}
-use Rattle.table_steps.proofs.ShelfLemmas.{room_is, over_is}
+use Rattle.shelf_table.specs.Rooms.{IsRoomLeft}
+use Rattle.shelf_table.proofs.RoomLemmas.{room_is, over_is}
 use Rattle.table_steps.proofs.ShelfStepLemmas.{fits_closes, over_closes}
 use Rattle.table_steps.proofs.shelf.ShelfStepCloser.close.Goals as goal
 

@@ -1,8 +1,8 @@
 use Rattle.std.proofs.Common.{subst}
 use Rattle.std.specs.Prelude.{Some, None}
 use Rattle.linear_step.specs.Weights.{prices_of}
-use Rattle.table_steps.specs.ShelfFits.{IsRoomLeft}
-use Rattle.table_steps.proofs.ShelfLemmas.{room_is, over_is}
+use Rattle.shelf_table.specs.Rooms.{IsRoomLeft}
+use Rattle.shelf_table.proofs.RoomLemmas.{room_is, over_is}
 use Rattle.table_steps.proofs.ShelfStepLemmas.{read_greatest, over_has_none}
 use Rattle.table_steps.proofs.shelf.ShelfStepStep.best.Goals as goal
 

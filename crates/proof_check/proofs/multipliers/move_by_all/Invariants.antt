@@ -1,6 +1,0 @@
-use Rattle.proof_check.proofs.multipliers.move_by_all.Given as goal
-use Rattle.linear_step.specs.Weights.{prices_of}
-use Rattle.proof_check.specs.Pricing.{AreRelaxed}
-
-abbrev pub invariant-loop-k : goal.invariant-loop-k
-invariant-loop-k l = AreRelaxed l.p l.numbers.items (prices_of l.weights) l.list l.k
