@@ -38,20 +38,20 @@ use Rattle.proof_write.specs.Leaves.{leaf_line, IsPrintable}
 
 -- ---- Revenue is one ratio.
 
-earns_by_ratio : (m : ModelName) (p : ProblemData) (x y : List Bool) → IsRatioModel m → EarnsMoreUnder m p x y → EarnsMoreByRatio p x y
+pub earns_by_ratio : (m : ModelName) (p : ProblemData) (x y : List Bool) → IsRatioModel m → EarnsMoreUnder m p x y → EarnsMoreByRatio p x y
 earns_by_ratio Logit p x y r h = h
 earns_by_ratio Attract p x y r h = h
 earns_by_ratio Mixed p x y r h = absurd r
 earns_by_ratio Chain p x y r h = absurd r
 
-by_ratio_earns : (m : ModelName) (p : ProblemData) (x y : List Bool) → IsRatioModel m → EarnsMoreByRatio p x y → EarnsMoreUnder m p x y
+pub by_ratio_earns : (m : ModelName) (p : ProblemData) (x y : List Bool) → IsRatioModel m → EarnsMoreByRatio p x y → EarnsMoreUnder m p x y
 by_ratio_earns Logit p x y r h = h
 by_ratio_earns Attract p x y r h = h
 by_ratio_earns Mixed p x y r h = absurd r
 by_ratio_earns Chain p x y r h = absurd r
 
 -- At the revenue of x nothing that doesn't earn more is worth more than 0.
-low : (p : ProblemData) (x y : List Bool) → (EarnsMoreByRatio p y x → ⊥) → worth_of p (own_prices p x) y ≤ℤ pos 0
+pub low : (p : ProblemData) (x y : List Bool) → (EarnsMoreByRatio p y x → ⊥) → worth_of p (own_prices p x) y ≤ℤ pos 0
 low p x y no_more =
     let e = worth_is p (gain_of p (first_segment p) x) (weight_of p (first_segment p) x) y in
     let le = at_most _ _ no_more in
@@ -61,14 +61,14 @@ low p x y no_more =
     at_most a b h = omega arith
 
 -- What is worth 0 earns as much.
-tied : (p : ProblemData) (x y : List Bool) → worth_of p (own_prices p x) y ≡ pos 0 → EarnsMoreByRatio p x y → ⊥
+pub tied : (p : ProblemData) (x y : List Bool) → worth_of p (own_prices p x) y ≡ pos 0 → EarnsMoreByRatio p x y → ⊥
 tied p x y zero_worth more =
     let e = worth_is p (gain_of p (first_segment p) x) (weight_of p (first_segment p) x) y in
     omega (arith, ints)
 
 -- ---- The greatest worth.
 
-sign : (z : ℤ) → z ≤ℤ pos 0 → (z <ℤ pos 0) ⊎ (z ≡ pos 0)
+pub sign : (z : ℤ) → z ≤ℤ pos 0 → (z <ℤ pos 0) ⊎ (z ≡ pos 0)
 sign (pos zero) h = inr refl
 sign (pos (suc n)) h = absurd (omega (arith, ints))
 sign (negsuc n) h = inl (omega (arith, ints))

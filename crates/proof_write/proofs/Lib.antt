@@ -4,3 +4,10 @@ pub mod LeafLemmas
 pub mod LineLemmas
 pub mod WriteLemmas
 pub mod RatioProofLemmas
+pub mod DecideLemmas
+pub mod ZeroLemmas
+pub mod SettledLemmas
+pub mod WalkLemmas
+pub mod SearchLemmas
+pub mod SearchProofLemmas
+pub mod SearchWriteLemmas

@@ -135,7 +135,7 @@ path_along p x leaves f (suc more) k e = (
     by_offer true next deep own = (subst (λ n. IsPath p x shape more (k + 1) n inner) (sym next) deep, own)
     by_offer false next deep own = (own, subst (λ n. IsPath p x shape more (k + 1) n inner) (sym next) deep)
 
-form_under : (m : ModelName) (p : ProblemData) (x : List Bool) (tree : Tree) → IsRatioModel m → RatioForm p x (exact_leaf p.limits) tree → FormUnder m p x tree
+pub form_under : (m : ModelName) (p : ProblemData) (x : List Bool) (tree : Tree) → IsRatioModel m → RatioForm p x (exact_leaf p.limits) tree → FormUnder m p x tree
 form_under Logit p x tree r h = h
 form_under Attract p x tree r h = h
 form_under Mixed p x tree r h = absurd r
@@ -198,7 +198,7 @@ written_as p x leaves model value f few same is valid =
 -- ---- What the writer answers.
 
 -- A whole text is not empty, so that the output has grown by it.
-has_grown : (old new : StoreView) (byte : ℕ) (bytes : List ℕ) → Adds old (byte ∷ bytes) new → Extends old (byte ∷ bytes) new
+pub has_grown : (old new : StoreView) (byte : ℕ) (bytes : List ℕ) → Adds old (byte ∷ bytes) new → Extends old (byte ∷ bytes) new
 has_grown old new byte bytes (inl same) = let never = same.0 in cc
 has_grown old new byte bytes (inr grown) = grown
 

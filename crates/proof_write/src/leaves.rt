@@ -34,7 +34,7 @@ fn mark_of(offered: bool) -> Mark
 }
 
 /// The weights at what is earned.
-fn weights_of(alloc: Global, p: &Problem, earned: &Fraction) -> Result<Weights, NoMemory>
+pub(crate) fn weights_of(alloc: Global, p: &Problem, earned: &Fraction) -> Result<Weights, NoMemory>
     requires model { IsRatioModel p.now.model }
     requires num { earned.now.num < gain_bound }
     requires den { (1 ≤ earned.now.den) × (earned.now.den < weight_bound) }

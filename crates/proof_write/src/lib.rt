@@ -5,8 +5,13 @@ mod faults;
 mod header;
 mod leaves;
 mod line_writer;
+mod node_line;
 mod path;
 mod ratio;
+mod search;
+mod walk;
+mod zero_leaf;
 
 pub use faults::ProofFault;
 pub use ratio::write_ratio_proof;
+pub use search::write_search_proof;

@@ -20,7 +20,11 @@ fn fill_branch(k: usize, writer: &mut LineWriter)
 }
 
 /// Writes the branch on product `k`.
-fn write_branch<S: Store>(k: usize, writer: &mut LineWriter, store: &mut S) -> Result<(), Failed>
+pub(crate) fn write_branch<S: Store>(
+    k: usize,
+    writer: &mut LineWriter,
+    store: &mut S,
+) -> Result<(), Failed>
     requires output { IsTrue (S.view store.old).writing }
     ensures { Writes (S.view store.old) (line Shapes.Branch (k ∷ []) ∷ []) result (S.view store.new) }
 {
