@@ -1,5 +1,5 @@
 -- What the files of a request give, from what was loaded and read.
-use Rattle.std.proofs.Common.{◌≡◌, arith, subst, sym, refl, ◌⊎◌, inl, inr, if◌then◌else◌, Bool, ℕ, ◌<◌, ◌≤◌, List, [], length, Bool, true, false, nat_le, Option, Some, Result, Ok, Err}
+use Rattle.std.proofs.Common.{◌≡◌, arith, subst, sym, refl, ℕ, ◌<◌, ◌≤◌, List, length, true, false, nat_le, Option, Some, Result, Ok, Err}
 use Rattle.catalogue.specs.declared.faults.Code.{Code}
 use Rattle.offer_model.specs.declared.products.ModelName.{ModelName}
 use Rattle.catalogue.specs.declared.faults.FileName.{FileName}
@@ -9,7 +9,7 @@ use Rattle.catalogue.specs.declared.faults.InputFault.TheVariants.{Fault}
 use Rattle.catalogue.specs.declared.products.TheConstants.{MOST_TABLE}
 use Rattle.catalogue.specs.Faults.{OnFault}
 use Rattle.catalogue.specs.ProductTables.{products_outcome}
-use Rattle.catalogue.specs.LimitTables.{limits_outcome, AreOneKind}
+use Rattle.catalogue.specs.LimitTables.{limits_outcome}
 use Rattle.catalogue.specs.Rows.{RowData}
 use Rattle.offer_io.specs.Causes.{Rose}
 use Rattle.offer_io.specs.Stores.{StoreView, Passes}
@@ -21,11 +21,6 @@ use Rattle.assort_core.specs.Stops.{WhyStopped}
 use Rattle.std.specs.Prelude.{Contains, IsTrue}
 use Rattle.std.proofs.lemmas.Bool.Decides.{nat_tests}
 use Rattle.catalogue.specs.declared.faults.Code.TheVariants.{TooLarge}
-use Rattle.std.specs.Prelude.{◌≢◌, ◌==◌, ◌&&◌}
-use Rattle.std.specs.List.{list_all}
-use Rattle.offer_model.specs.Validity.{is_cap, is_requires, is_shelf, is_ladder}
-use Rattle.limit_rules.specs.Kinds.{kind_of}
-use Rattle.limit_rules.specs.declared.kind.Kind.TheVariants.{Free, Caps, Closure, Shelf, Ladder, General}
 use Rattle.assort_words.specs.Asked.{RequestData}
 use Rattle.assort_core.specs.Lines.{fault_line}
 use Rattle.assort_core.specs.Judged.{given_by, given_products, given_limits, judged, products_name, proof_name}
@@ -77,23 +72,6 @@ pub limits_given : (r : RequestData) (file : List ℕ → Option (List ℕ)) (ro
 limits_given r file rows name bytes slice limits named there fits same is =
     let read : limits_outcome rows bytes ≡ Ok limits = subst (λ b. limits_outcome rows b ≡ Ok limits) same is in
     rw (sym named) (given_table Limits (limits_outcome rows) (file name) bytes (Ok limits) there fits read)
-
--- Limits of one kind aren't of several.
-kind_by : (none caps requires shelf ladders : Bool) → (caps ≡ true) ⊎ (requires ≡ true) ⊎ (shelf ≡ true) ⊎ (ladders ≡ true)
-    → (if none then Free else (if caps then Caps else (if requires then Closure else (if shelf then Shelf else (if ladders then Ladder else General))))) ≢ General
-kind_by true caps requires shelf ladders one = λ e. cc
-kind_by false true requires shelf ladders one = λ e. cc
-kind_by false false true shelf ladders one = λ e. cc
-kind_by false false false true ladders one = λ e. cc
-kind_by false false false false true one = λ e. cc
-kind_by false false false false false (inl e) = cc
-kind_by false false false false false (inr (inl e)) = cc
-kind_by false false false false false (inr (inr (inl e))) = cc
-kind_by false false false false false (inr (inr (inr e))) = cc
-
-pub one_kind : (limits : List Limit) → AreOneKind limits → kind_of limits ≢ General
-one_kind limits one = kind_by (length limits == 0) (list_all is_cap limits) (list_all is_requires limits)
-    (list_all is_shelf limits && (length limits == 1)) (list_all is_ladder limits) one
 
 -- What both files give.
 pub both_given : (r : RequestData) (file : List ℕ → Option (List ℕ)) (rows : List RowData) (limits : List Limit)

@@ -1,5 +1,5 @@
 -- What comes of a request to solve, from what its parts do.
-use Rattle.std.proofs.Common.{◌≡◌, ◌∙◌, sym, refl, subst, arith, None, ℕ, ◌≤◌, Bool, List, [], take, Some, IsTrue, inl, inr, ◌⊎◌}
+use Rattle.std.proofs.Common.{◌≡◌, ◌∙◌, sym, refl, ap, subst, None, ℕ, Bool, List, [], take, Some, IsTrue, Result, Ok, Err, OnErr, inl, inr, ◌⊎◌}
 use Rattle.offer_model.specs.Problems.{ProblemData}
 use Rattle.offer_model.specs.Best.{IsBest}
 use Rattle.offer_io.specs.Causes.{Rose}
@@ -60,6 +60,14 @@ proof_stands r old mid new i p name is e tells there holds = λ told other asks.
     let h = holds (rw tells told) in
     let t = there told in
     rw (asked_name r name other is asks) (i, t, (h.0, rw e at h.1, h.2))
+
+-- Where only files were read, the proof is as it was.
+pub nothing_written : (r : RequestData) (old new : StoreView) → Passes old new → ProofMayStand r old new
+nothing_written r old new passes = λ told name asks. inl (ap (λ file. file name) (passes.files told).file)
+
+pub on_err : {T E : Type 0} (result : Result T E) (P : Type 0) → P → OnErr result P
+on_err (Ok x) P p = tt
+on_err (Err e) P p = p
 
 pub proof_may_stand : (r : RequestData) (old mid new : StoreView) (i : InputsData) (p : ProblemData) (name : List ℕ) → r.proof ≡ Some name
     → p ≡ asked_problem r i → Passes old mid → (IsTrue old.tells → Gives r old i) → HoldsPart p name mid new → ProofMayStand r old new

@@ -1,8 +1,6 @@
-ghost use Rattle.std.specs.Prelude.{◌≡◌, ◌≢◌, ◌<◌, IfOk};
+ghost use Rattle.std.specs.Prelude.{◌≡◌, ◌<◌, IfOk};
 ghost use Rattle.offer_model.specs.Best.{IsBest};
 ghost use Rattle.offer_model.specs.Validity.{IsRatioModel};
-ghost use Rattle.limit_rules.specs.Kinds.{kind_of};
-ghost use Rattle.limit_rules.specs.declared.kind.Kind.TheVariants as kind;
 
 use cut_step::ClosureStep;
 use limit_rules::{Kind, kind_of};
@@ -14,11 +12,11 @@ use std::alloc::Global;
 use std::marker::Brand;
 use std::sync::ledger::{Blank, Ledger};
 use table_steps::{LadderStep, ShelfStep};
+use tree_search::SearchStep;
 
 /// The best assortment, by the step of the limits' kind, with its steps counted in a ledger.
 fn best_counted<L: Ledger>(alloc: Global, p: &Problem, blank: Blank) -> Result<Assortment, NoMemory>
     requires model { IsRatioModel p.now.model }
-    requires kind { kind_of p.now.limits ≢ kind.General }
     requires name { blank.name ≡ L.name }
     requires parts { blank.parts ≡ L.parts }
     requires some { 0 < blank.parts }
@@ -31,14 +29,13 @@ fn best_counted<L: Ledger>(alloc: Global, p: &Problem, blank: Blank) -> Result<A
         Kind::Closure => best_ratio(alloc, &mut ClosureStep::prepare(alloc, p)?, p, &mut steps),
         Kind::Shelf => best_ratio(alloc, &mut ShelfStep::prepare(alloc, p)?, p, &mut steps),
         Kind::Ladder => best_ratio(alloc, &mut LadderStep::prepare(alloc, p)?, p, &mut steps),
-        Kind::General => unreachable!(),
+        Kind::General => best_ratio(alloc, &mut SearchStep::prepare(alloc, p)?, p, &mut steps),
     }
 }
 
 /// The best assortment under logit or generalised attraction.
 pub(crate) fn best_assortment(alloc: Global, p: &Problem) -> Result<Assortment, NoMemory>
     requires model { IsRatioModel p.now.model }
-    requires kind { kind_of p.now.limits ≢ kind.General }
     ensures { IfOk result (IsBest p.now) }
 {
     best_counted::<Brand>(alloc, p, Blank::new(1))

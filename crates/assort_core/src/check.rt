@@ -1,4 +1,4 @@
-ghost use Rattle.std.specs.Prelude.{◌≡◌, ◌<◌, [], IfOk, IfErr, IsTrue, ◌↔◌, if◌then◌else◌};
+ghost use Rattle.std.specs.Prelude.{◌≡◌, ◌<◌, IfOk, IfErr, IsTrue, ◌↔◌, if◌then◌else◌};
 ghost use Rattle.offer_model.specs.Validity.{IsRatioModel};
 ghost use Rattle.offer_io.specs.Stores.{Passes};
 ghost use Rattle.proof_lines.specs.Acceptance.{Accepts};

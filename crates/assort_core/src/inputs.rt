@@ -1,11 +1,9 @@
-ghost use Rattle.std.specs.Prelude.{◌≡◌, ◌≢◌, ◌≤◌, List, ℕ, Some, Ok, IfOk, IfErr, IsTrue, length, unwrap_or};
+ghost use Rattle.std.specs.Prelude.{◌≡◌, ◌≤◌, ℕ, Some, Ok, IfOk, IfErr, IsTrue, length, unwrap_or};
 ghost use Rattle.offer_model.specs.declared.products.ModelName.{ModelName};
 ghost use Rattle.offer_model.specs.declared.products.ModelName.TheVariants as model;
 ghost use Rattle.offer_model.specs.Validity.{HasLimits};
 ghost use Rattle.offer_io.specs.Stores.{Passes};
 ghost use Rattle.catalogue.specs.CatalogueProblems.{KeepsShadows, problem_data_of};
-ghost use Rattle.limit_rules.specs.Kinds.{kind_of};
-ghost use Rattle.limit_rules.specs.declared.kind.Kind.TheVariants as kind;
 ghost use Rattle.assort_words.specs.Asked.{IsComplete};
 ghost use Rattle.assort_core.specs.Judged.{asked_problem, given_products, given_limits};
 ghost use Rattle.assort_core.specs.Runs.{Gives};
@@ -80,7 +78,6 @@ fn read_catalogue<S: Store>(
 }
 
 /// The limits of the limits file, or none where there is no such file.
-#[tactic(auto, using(crate::proofs::InputLemmas::one_kind))]
 fn read_request_limits<S: Store>(
     alloc: Global,
     request: &Request<'_>,
@@ -92,7 +89,6 @@ fn read_request_limits<S: Store>(
     ensures limits { IfOk result (λ limits. IsTrue (S.view store.old).tells
         → given_limits request.now (S.view store.old).file c.now ≡ Some (Ok limits.items)) }
     ensures fit { IfOk result (λ limits. (model : ModelName) (none unit : ℕ) → HasLimits (problem_data_of c.now model none unit limits.items)) }
-    ensures single { IfOk result (λ limits. kind_of limits.items ≢ kind.General) }
     ensures stopped { IfErr result (WhyStopped request.now (S.view store.old) (S.view store.new)) }
 {
     let Some(name) = request.limits() else {
@@ -142,7 +138,6 @@ pub(crate) fn read_inputs<S: Store>(
     ensures problem { IfOk result (λ i. i.problem ≡ asked_problem request.now (record { rows = i.catalogue; limits = i.problem.limits })) }
     ensures given { IfOk result (λ i. IsTrue (S.view store.old).tells
         → Gives request.now (S.view store.old) (record { rows = i.catalogue; limits = i.problem.limits })) }
-    ensures single { IfOk result (λ i. kind_of i.problem.limits ≢ kind.General) }
     ensures stopped { IfErr result (WhyStopped request.now (S.view store.old) (S.view store.new)) }
 {
     let catalogue = match read_catalogue(alloc, request, store) {

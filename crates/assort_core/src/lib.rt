@@ -18,4 +18,6 @@ pub use top::run;
 #[cfg(test)]
 mod limit_tests;
 #[cfg(test)]
+mod step_count_tests;
+#[cfg(test)]
 mod tests;

@@ -26,6 +26,10 @@ fn run_with_limits<R: Threads + Sync>(
 
 const TWINS: &[u8] = b"name,margin,attraction\nA,10,2\nB,10,2\n";
 
+const TWO: &[u8] = b"name,margin,attraction\nA,10,2\nB,4,3\n";
+
+const ONE_WITH_ITS_PAIR: &[u8] = b"kind,first,second,number\ntotal,,,1\nrequires,A,B,\n";
+
 const CHAIN: &[u8] = b"name,margin,attraction\nA,10,1\nB,0,1\nC,0,1\n";
 
 const THREE_ON_A_SHELF: &[u8] = b"name,margin,attraction,space\nA,10,2,3\nB,8,2,2\nC,8,2,2\n";
@@ -41,7 +45,7 @@ const PAIRS: &[u8] = b"kind,first,second,number\nrequires,A,B,\nrequires,B,C,\n"
 
 #[test]
 fn limits_are_met_by_what_is_offered(rt: HostRuntime) -> Result<(), Fail> {
-    let cases: [(&str, &[u8], &[u8], u8, &[u8], &[u8]); 9] = [
+    let cases: [(&str, &[u8], &[u8], u8, &[u8], &[u8]); 11] = [
         (
             "solve --model logit --products p.csv --limits m.csv --none 4",
             THREE_ON_A_SHELF,
@@ -91,12 +95,28 @@ fn limits_are_met_by_what_is_offered(rt: HostRuntime) -> Result<(), Fail> {
             b"",
         ),
         (
+            "solve --model logit --products p.csv --limits m.csv --none 5",
+            TWO,
+            ONE_WITH_ITS_PAIR,
+            0,
+            b"model logit\nproducts 2\noffer B\nset 01\nvalue 12/8\n",
+            b"",
+        ),
+        (
+            "solve --model logit --products p.csv --limits m.csv --none 4",
+            THREE_ON_A_SHELF,
+            b"kind,first,second,number\nshelf,,,4\ntotal,,,1\n",
+            0,
+            b"model logit\nproducts 3\noffer A\nset 100\nvalue 20/6\n",
+            b"",
+        ),
+        (
             "solve --model logit --products p.csv --limits m.csv --none 2",
             TWINS,
             b"kind,first,second,number\ntotal,,,1\nrequires,A,Z,\n",
             3,
             b"",
-            b"assort: limits row 3: unknown kind\n",
+            b"assort: limits row 3: unknown name\n",
         ),
         (
             "solve --model logit --products p.csv --limits absent.csv --none 2",
@@ -142,6 +162,23 @@ fn proofs_under_a_shelf_are_the_ones_of_the_rule(rt: HostRuntime) -> Result<(), 
         let checked = run_over(&rt, rt.alloc(), check, &mut store, NOTHING_FAILS)?;
         assert_eq!(rt; checked.status, 0);
     }
+    Ok(())
+}
+
+#[test]
+fn the_proof_under_several_kinds_is_the_one_of_the_rule(rt: HostRuntime) -> Result<(), Fail> {
+    let proof =
+        b"assort-proof 1\nmodel logit\nset 01\nvalue 12/8\nb 0\nb 1\nx\nx\nb 1\nm 0 0\nm 0 0\nend\n".as_slice();
+    let mut store = MemoryStore::new(rt.alloc());
+    store.put("p.csv", TWO)?;
+    store.put("m.csv", ONE_WITH_ITS_PAIR)?;
+    let solve = "solve --model logit --products p.csv --limits m.csv --none 5 --proof q";
+    let solved = run_over(&rt, rt.alloc(), solve, &mut store, NOTHING_FAILS)?;
+    assert_eq!(rt; solved.status, 0);
+    assert!(rt; store.file("q") == Some(proof));
+    let check = "check --model logit --products p.csv --limits m.csv --none 5 --proof q";
+    let checked = run_over(&rt, rt.alloc(), check, &mut store, NOTHING_FAILS)?;
+    assert_eq!(rt; checked.status, 0);
     Ok(())
 }
 
@@ -245,6 +282,7 @@ fn a_catalogue_of_the_greatest_numbers_is_offered_whole(rt: HostRuntime) -> Resu
         "requires,p0,p1,\n",
         "shelf,,,1000\n",
         "ladder,k,,\n",
+        "total,,,1000\nrequires,p0,p1,\n",
     ];
     for rows in cases {
         let limits = format!(in alloc; "kind,first,second,number\n{rows}")?;

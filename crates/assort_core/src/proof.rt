@@ -1,11 +1,8 @@
-ghost use Rattle.std.specs.Prelude.{◌≡◌, ◌≢◌, ◌⊎◌, [], ℕ, List, Some, take, OnOk, OnErr, IfErr, IsErrOf, IsTrue};
+ghost use Rattle.std.specs.Prelude.{◌≡◌, ◌⊎◌, OnOk, OnErr, IfErr, IsErrOf, IsTrue};
 ghost use Rattle.offer_model.specs.Best.{IsBest};
 ghost use Rattle.offer_model.specs.Validity.{IsRatioModel};
 ghost use Rattle.offer_io.specs.Causes.{Rose};
 ghost use Rattle.offer_io.specs.Stores.{OthersStay};
-ghost use Rattle.limit_rules.specs.Kinds.{kind_of};
-ghost use Rattle.limit_rules.specs.declared.kind.Kind.TheVariants as kind;
-ghost use Rattle.proof_lines.specs.Writing.{IsWritten};
 ghost use Rattle.proof_write.specs.Outputs.{HasWritten, HasWrittenPart};
 ghost use Rattle.proof_write.specs.declared.faults.ProofFault.TheVariants as ProofFault;
 ghost use Rattle.assort_core.specs.Runs.{Endures};
@@ -16,7 +13,7 @@ use cut_step::ClosureStep;
 use limit_rules::{Kind, kind_of};
 use offer_io::Store;
 use offer_model::{Assortment, Problem};
-use proof_write::{ProofFault, write_ratio_proof};
+use proof_write::{ProofFault, write_ratio_proof, write_search_proof};
 use rank_step::{CapsStep, FreeStep};
 use std::alloc::Global;
 use table_steps::{LadderStep, ShelfStep};
@@ -29,7 +26,6 @@ fn write_certificate<S: Store>(
     store: &mut S,
 ) -> Result<(), ProofFault>
     requires model { IsRatioModel p.now.model }
-    requires kind { kind_of p.now.limits ≢ kind.General }
     requires best { IsBest p.now best.now }
     requires output { IsTrue (S.view store.old).writing }
     ensures written { OnOk result (HasWritten p.now (S.view store.old) (S.view store.new)) }
@@ -56,7 +52,7 @@ fn write_certificate<S: Store>(
         Kind::Ladder => {
             write_ratio_proof(alloc, p, best, &mut LadderStep::prepare(alloc, p)?, store)
         }
-        Kind::General => unreachable!(),
+        Kind::General => write_search_proof(alloc, p, best, store),
     }
 }
 
@@ -69,7 +65,6 @@ pub(crate) fn write_proof<S: Store>(
     name: &str,
 ) -> Result<(), Stop>
     requires model { IsRatioModel p.now.model }
-    requires kind { kind_of p.now.limits ≢ kind.General }
     requires best { IsBest p.now best.now }
     ensures written { OnOk result (HoldsProof p.now name.now (S.view store.new)) }
     ensures part { OnErr result (HoldsPart p.now name.now (S.view store.old) (S.view store.new)) }

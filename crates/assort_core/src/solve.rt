@@ -1,9 +1,7 @@
-ghost use Rattle.std.specs.Prelude.{◌≡◌, ◌≢◌, [], length, Some, IfOk, IfErr, OnOk, OnErr, IsErrOf, IsTrue, ◌⊎◌};
+ghost use Rattle.std.specs.Prelude.{◌≡◌, length, Some, IfOk, IfErr, OnOk, OnErr, IsTrue};
 ghost use Rattle.offer_model.specs.Best.{IsBest};
 ghost use Rattle.offer_model.specs.Problems.{product_count};
 ghost use Rattle.offer_model.specs.Validity.{IsRatioModel};
-ghost use Rattle.limit_rules.specs.Kinds.{kind_of};
-ghost use Rattle.limit_rules.specs.declared.kind.Kind.TheVariants as kind;
 ghost use Rattle.assort_words.specs.declared.usage.Command.TheVariants as command;
 ghost use Rattle.assort_words.specs.Asked.{IsComplete};
 ghost use Rattle.assort_core.specs.Outcomes.{answer, IsAnswerTo};
@@ -44,7 +42,6 @@ struct Solution {
 
 fn solution_of(alloc: Global, inputs: &Inputs) -> Result<Solution, NoMemory>
     requires model { IsRatioModel inputs.now.problem.model }
-    requires kind { kind_of inputs.now.problem.limits ≢ kind.General }
     requires products { product_count inputs.now.problem ≡ length inputs.now.catalogue }
     ensures best { IfOk result (λ s. IsBest inputs.now.problem s.best) }
     ensures report { IfOk result (λ s. s.report.items ≡ problem_report inputs.now.catalogue inputs.now.problem s.best) }

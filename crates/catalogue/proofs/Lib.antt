@@ -6,7 +6,6 @@ pub mod FaultLemmas
 pub mod LentNameLemmas
 pub mod LimitLemmas
 pub mod LimitNameLemmas
-pub mod OneKindLemmas
 pub mod NameLemmas
 pub mod OutcomeLemmas
 pub mod ProductLemmas

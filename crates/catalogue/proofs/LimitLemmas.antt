@@ -25,7 +25,7 @@ use Rattle.catalogue.specs.Faults.{first_row_fault}
 use Rattle.catalogue.specs.Cells.{text_of, written_number}
 use Rattle.catalogue.specs.CatalogueProblems.{problem_data_of}
 use Rattle.catalogue.specs.Rows.{RowData, no_row, row_at, HasNumbers}
-use Rattle.catalogue.specs.LimitTables.{kind_of_row, category_named, ladder_named, product_named, first_named, second_named, limit_by, limit_under, stated_limit, limits_before, repeats, line_fault, requires_fault, other_kind_fault, named_fault, cap_fault, repeated_fault, fields_fault, fault_of_kind, limit_fault}
+use Rattle.catalogue.specs.LimitTables.{kind_of_row, category_named, ladder_named, product_named, first_named, second_named, limit_by, limit_under, stated_limit, limits_before, repeats, line_fault, requires_fault, named_fault, cap_fault, repeated_fault, fields_fault, fault_of_kind, limit_fault}
 use Rattle.catalogue.proofs.FaultLemmas.{all_none, no_fault_if, no_fault_else, row_is_clean}
 use Rattle.catalogue.proofs.LimitNameLemmas.{number_is_had}
 use Rattle.catalogue.proofs.ProductLemmas.{in_range}
@@ -55,7 +55,6 @@ held false b e f = cc
 pub record CleanLimit (rows : List RowData) (table : TableData) (k : ℕ) (kind : LimitKind) : Type 0 where
   pub kind_is : kind_of_row table k ≡ Some kind
   pub line : line_fault k ≡ None
-  pub beside : other_kind_fault rows table k ≡ None
   pub pairs : requires_fault rows table k ≡ None
   pub first : named_fault (first_named rows kind (text_of table k FIRST)) ≡ None
   pub second : named_fault (second_named rows kind (text_of table k SECOND)) ≡ None
@@ -71,19 +70,18 @@ clean_limit rows table k clean =
         → (kind : LimitKind) × CleanLimit rows table k kind
     by_kind line None is none = cc
     by_kind line (Some kind) is none =
-        let each = (all_none (other_kind_fault rows table k ∷ requires_fault rows table k ∷ fields_fault rows table k kind ∷ repeated_fault rows table k ∷ []) none) in
+        let each = (all_none (requires_fault rows table k ∷ fields_fault rows table k kind ∷ repeated_fault rows table k ∷ []) none) in
         let fields = all_none (named_fault (first_named rows kind (text_of table k FIRST))
-        ∷ named_fault (second_named rows kind (text_of table k SECOND)) ∷ cap_fault kind (text_of table k NUMBER) ∷ []) each.1.1.0 in (
+        ∷ named_fault (second_named rows kind (text_of table k SECOND)) ∷ cap_fault kind (text_of table k NUMBER) ∷ []) each.1.0 in (
           kind,
           record {
             kind_is = is;
             line = line;
-            beside = each.0;
-            pairs = each.1.0;
+            pairs = each.0;
             first = fields.0;
             second = fields.1.0;
             number = fields.1.1.0;
-            once = each.1.1.1.0;
+            once = each.1.1.0;
           },
         )
 

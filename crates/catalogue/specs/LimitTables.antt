@@ -1,11 +1,11 @@
 -- A limits file: its columns, its rows and its first fault, over the rows of a catalogue. Own.
-use Rattle.std.specs.Prelude.{◌≡◌, ◌⊎◌, ℕ, ◌+◌, ◌==◌, ◌&&◌, not, Bool, true, false, List, [], ◌∷◌, length, map, position, replicate, count_by, codes, Option, Some, None, option_map, unwrap_or, is_some, Result, Ok, Err, nat_lt, if◌then◌else◌}
-use Rattle.std.specs.List.{list_all, list_any, range_with_len}
+use Rattle.std.specs.Prelude.{ℕ, ◌+◌, ◌==◌, ◌&&◌, not, Bool, true, false, List, [], ◌∷◌, length, map, position, replicate, count_by, codes, Option, Some, None, option_map, unwrap_or, is_some, Result, Ok, Err, nat_lt, if◌then◌else◌}
+use Rattle.std.specs.List.{list_any, range_with_len}
 use Rattle.std.specs.Str.{bytes_eq}
 use Rattle.offer_model.specs.declared.products.Limit.{Limit}
 use Rattle.offer_model.specs.declared.products.Limit.TheVariants as limit
 use Rattle.offer_model.specs.declared.ranges.TheConstants.{MOST_COUNT, MOST_LIMITS, MOST_REQUIRES}
-use Rattle.offer_model.specs.Validity.{is_cap, is_requires, is_shelf, is_ladder}
+use Rattle.offer_model.specs.Validity.{is_requires}
 use Rattle.table_reader.specs.declared.faults.TableFault.{TableFault}
 use Rattle.table_reader.specs.Records.{records_of}
 use Rattle.table_reader.specs.Tables.{TableData}
@@ -131,35 +131,11 @@ fields_fault rows table k kind = first_of (
     ∷ cap_fault kind (text_of table k NUMBER)
     ∷ [])
 
--- Whether two limits are of kinds that may stand together, until limits of several kinds can: caps, requirements, shelves
--- or ladders.
-abbrev pub are_one_kind : Limit → Limit → Bool
-are_one_kind (limit.Total cap) other = is_cap other
-are_one_kind (limit.Category c cap) other = is_cap other
-are_one_kind (limit.Requires a b) other = is_requires other
-are_one_kind (limit.Shelf space) other = is_shelf other
-are_one_kind (limit.Ladder l) other = is_ladder other
-
--- Whether a limit may stand beside the first of these.
-abbrev pub suits_first : List Limit → Limit → Bool
-suits_first [] next = true
-suits_first (first ∷ rest) next = are_one_kind first next
-
--- The limits are of one kind: caps, requirements, one shelf, or ladders.
-abbrev pub AreOneKind : List Limit → Type 0
-AreOneKind limits = (list_all is_cap limits ≡ true) ⊎ (list_all is_requires limits ≡ true)
-    ⊎ ((list_all is_shelf limits && (length limits == 1)) ≡ true) ⊎ (list_all is_ladder limits ≡ true)
-
--- Data row k has a kind that can't stand beside the first row's.
-abbrev pub other_kind_fault : List RowData → TableData → ℕ → Option Code
-other_kind_fault rows table k =
-    if suits_first (limits_before rows table k) (stated_limit rows table k) then None else Some UnknownKind
-
 -- What is wrong with data row k of a kind.
 abbrev pub fault_of_kind : List RowData → TableData → ℕ → Option LimitKind → Option Code
 fault_of_kind rows table k None = Some UnknownKind
 fault_of_kind rows table k (Some kind) =
-    first_of (other_kind_fault rows table k ∷ requires_fault rows table k ∷ fields_fault rows table k kind ∷ repeated_fault rows table k ∷ [])
+    first_of (requires_fault rows table k ∷ fields_fault rows table k kind ∷ repeated_fault rows table k ∷ [])
 
 -- What is wrong with data row k: its number, then its kind, then the rest.
 abbrev pub limit_fault : List RowData → TableData → ℕ → Option Code

@@ -3,7 +3,7 @@ ghost use Rattle.std.specs.List.{list_any};
 ghost use Rattle.offer_model.specs.declared.ranges.TheConstants.{MOST_REQUIRES};
 ghost use Rattle.offer_model.specs.Validity.{is_requires};
 ghost use Rattle.catalogue.specs.Rows.{HasNumbers};
-ghost use Rattle.catalogue.specs.LimitTables.{limit_by, limit_under, stated_limit, limits_before, repeats, are_one_kind, suits_first, fields_fault, limit_fault};
+ghost use Rattle.catalogue.specs.LimitTables.{limit_by, limit_under, stated_limit, limits_before, repeats, fields_fault, limit_fault};
 
 use crate::catalogue::Row;
 use crate::cells::{cell, parse_number};
@@ -85,30 +85,6 @@ fn is_full(kind: LimitKind, pairs: usize) -> bool
     }
 }
 
-/// Whether limits of the kind may stand beside this one.
-fn suits(kind: LimitKind, first: Limit) -> bool
-    ensures { (a b number : ℕ) → result ≡ are_one_kind first (limit_by kind a b number) }
-{
-    match first {
-        Limit::Total(_) | Limit::Category(_, _) => {
-            matches!(kind, LimitKind::Total | LimitKind::Category)
-        }
-        Limit::Requires(_, _) => matches!(kind, LimitKind::Requires),
-        Limit::Shelf(_) => matches!(kind, LimitKind::Shelf),
-        Limit::Ladder(_) => matches!(kind, LimitKind::Ladder),
-    }
-}
-
-/// Whether limits of the kind may stand beside the first of these.
-fn suits_first(kind: LimitKind, limits: &Limits) -> bool
-    ensures { (a b number : ℕ) → result ≡ suits_first limits.now.items (limit_by kind a b number) }
-{
-    if limits.len() == 0 {
-        return true;
-    }
-    suits(kind, *limits.get(0))
-}
-
 /// The limit that data row `k` states, or what is wrong with it. `limits` are those of the rows before it, `pairs` of them of
 /// the kind `requires`.
 pub fn read_limit(
@@ -130,9 +106,6 @@ pub fn read_limit(
         return Err(Code::TooManyLines);
     }
     let kind = kind_named(cell(table, k, KIND)).ok_or(Code::UnknownKind)?;
-    if !suits_first(kind, limits) {
-        return Err(Code::UnknownKind);
-    }
     if is_full(kind, pairs) {
         return Err(Code::TooManyLines);
     }

@@ -71,10 +71,21 @@ fn after_pairs(alloc: Global, rows: &[u8]) -> Result<Vec<u8>, AllocError> {
     Ok(bytes)
 }
 
+/// 1,024 limits over them: the pairs, a cap for each category, each ladder. Then these rows.
+fn after_all(alloc: Global, rows: &[u8]) -> Result<Vec<u8>, AllocError> {
+    let mut bytes = after_pairs(alloc, b"")?;
+    for i in 0..256 {
+        let line = format!(in alloc; "category,c{i},,1\nladder,l{i},,\n")?;
+        bytes.extend_from_slice(line.as_bytes())?;
+    }
+    bytes.extend_from_slice(rows)?;
+    Ok(bytes)
+}
+
 #[test]
 fn limits_stand_in_file_order(rt: HostRuntime) -> Result<(), Fail> {
     let catalogue = catalogue_of(&rt, rt.alloc(), PRODUCTS);
-    let cases: [(&str, &[u8], &[Limit]); 11] = [
+    let cases: [(&str, &[u8], &[Limit]); 12] = [
         ("no limits", b"", &[]),
         (
             "caps",
@@ -102,6 +113,17 @@ fn limits_stand_in_file_order(rt: HostRuntime) -> Result<(), Fail> {
             "bytes that aren't text in a field that isn't used",
             b"shelf,\xFF,\"a,b\",01\n",
             &[Shelf(1)],
+        ),
+        (
+            "limits of every kind",
+            b"total,,,2\nrequires,A,C,\nshelf,,,9\nladder,up,,\ncategory,blue,,1\n",
+            &[
+                Total(2),
+                Requires(0, 2),
+                Shelf(9),
+                Ladder(1),
+                Category(2, 1),
+            ],
         ),
         (
             "both orders of a pair",
@@ -255,22 +277,22 @@ fn the_first_fault_of_a_limits_file_is_told(rt: HostRuntime) -> Result<(), Fail>
             RepeatedLimit,
         ),
         (
-            "a shelf beside a total",
+            "a shelf's number beside a total",
             b"total,,,2\nshelf,,,x\n",
             3,
-            UnknownKind,
+            BadNumber,
         ),
         (
-            "a pair beside a ladder",
+            "a pair's name beside a ladder",
             b"ladder,up,,\nrequires,D,D,\n",
             3,
-            UnknownKind,
+            UnknownName,
         ),
         (
-            "a category beside a shelf",
-            b"shelf,,,2\ncategory,red,,1\n",
-            3,
-            UnknownKind,
+            "two shelves with a category between",
+            b"shelf,,,2\ncategory,red,,1\nshelf,,,2\n",
+            4,
+            RepeatedLimit,
         ),
         ("the kind before a name", b"most,D,D,x\n", 2, UnknownKind),
         (
@@ -315,23 +337,25 @@ fn the_first_fault_of_a_limits_file_is_told(rt: HostRuntime) -> Result<(), Fail>
 }
 
 #[test]
-fn requirements_are_at_most_512(rt: HostRuntime) -> Result<(), Fail> {
+fn limits_are_at_most_1024_and_requirements_512(rt: HostRuntime) -> Result<(), Fail> {
     let wide = wide_table(rt.alloc())?;
     let catalogue = catalogue_of(&rt, rt.alloc(), wide.as_slice());
-    let most = after_pairs(rt.alloc(), b"")?;
-    let more = after_pairs(rt.alloc(), b"requires,x,y,\n")?;
-    let other_kind = after_pairs(rt.alloc(), b"ladder,x,,\n")?;
-    let cases: [(&str, &[u8], Result<usize, (usize, Code)>); 3] = [
-        ("512 pairs", most.as_slice(), Ok(512)),
+    let pairs = after_pairs(rt.alloc(), b"ladder,l7,,\n")?;
+    let more_pairs = after_pairs(rt.alloc(), b"requires,x,y,\n")?;
+    let most = after_all(rt.alloc(), b"")?;
+    let more = after_all(rt.alloc(), b"most,,,x\n")?;
+    let cases: [(&str, &[u8], Result<usize, (usize, Code)>); 4] = [
+        ("a ladder after 512 pairs", pairs.as_slice(), Ok(513)),
         (
             "the 513th pair, before its names",
-            more.as_slice(),
+            more_pairs.as_slice(),
             Err((514, TooManyLines)),
         ),
+        ("1024 limits", most.as_slice(), Ok(1024)),
         (
-            "a ladder after 512 pairs",
-            other_kind.as_slice(),
-            Err((514, UnknownKind)),
+            "the 1025th limit, before its kind",
+            more.as_slice(),
+            Err((1026, TooManyLines)),
         ),
     ];
     for (case, bytes, wanted) in cases {

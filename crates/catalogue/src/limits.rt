@@ -5,7 +5,7 @@ ghost use Rattle.catalogue.specs.declared.faults.FileName.TheVariants as file;
 ghost use Rattle.catalogue.specs.CatalogueProblems.{problem_data_of};
 ghost use Rattle.catalogue.specs.Faults.{OnFault, first_row_fault};
 ghost use Rattle.catalogue.specs.Rows.{HasNumbers};
-ghost use Rattle.catalogue.specs.LimitTables.{limit_columns, limit_fault, limits_before, limits_outcome, AreOneKind};
+ghost use Rattle.catalogue.specs.LimitTables.{limit_columns, limit_fault, limits_before, limits_outcome};
 
 use crate::catalogue::{Catalogue, Row};
 use crate::faults::{FileName, InputFault};
@@ -75,7 +75,6 @@ pub fn read_limits(alloc: Global, bytes: &[u8], c: &Catalogue) -> Result<Limits,
     requires { length bytes.now ≤ MOST_TABLE }
     ensures limits { IfOk result (λ limits. limits_outcome c.now bytes.now ≡ Ok limits.items) }
     ensures fits { IfOk result (λ limits. (model : ModelName) (none unit : ℕ) → HasLimits (problem_data_of c.now model none unit limits.items)) }
-    ensures single { IfOk result (λ limits. AreOneKind limits.items) }
     ensures fault { IfErr result (λ e. OnFault e (limits_outcome c.now bytes.now ≡ Err e)) }
 {
     let names = limit_columns(alloc)?;

@@ -1,5 +1,6 @@
 use Rattle.std.proofs.Common.{◌∙◌, sym, ap, Err}
-use Rattle.assort_core.proofs.SolveLemmas.{solved_answer, best_report, why_unwritten, proof_may_stand, proof_stands}
+use Rattle.assort_core.proofs.SolveLemmas.{solved_answer, best_report, why_unwritten, proof_may_stand, proof_stands, nothing_written, on_err}
+use Rattle.assort_core.specs.Runs.{ProofMayStand}
 use Rattle.assort_core.proofs.solve.solve.Goals as goal
 
 pub returns-in-Err-write_proof-clause-stopped : goal.returns-in-Err-write_proof-clause-stopped
@@ -16,6 +17,11 @@ returns-in-Err-write_proof-clause-part g c =
     proof_may_stand c.args.request.now (g.S.Store.view c.args.store.now) (g.S.Store.view c.read_inputs.new.store) (g.S.Store.view c.write_proof.new.store)
     (record { rows = c.in-Ok.inputs.catalogue; limits = c.in-Ok.inputs.problem.limits }) c.in-Ok.inputs.problem c.in-Some.name.now (sym c.in-Some.ensures.value) c.in-Ok.ensures.problem c.read_inputs.ensures.passes
     c.in-Ok.ensures.given c.in-Err-write_proof.ensures.part
+
+pub returns-in_err-solution-clause-part : goal.returns-in_err-solution-clause-part
+returns-in_err-solution-clause-part g c =
+    on_err c.from_residual.result (ProofMayStand c.args.request.now (g.S.Store.view c.args.store.now) (g.S.Store.view c.read_inputs.new.store))
+    (nothing_written c.args.request.now (g.S.Store.view c.args.store.now) (g.S.Store.view c.read_inputs.new.store) c.read_inputs.ensures.passes)
 
 pub returns-clause-proof : goal.returns-clause-proof
 returns-clause-proof g c =
