@@ -10,6 +10,7 @@ import shutil
 import subprocess
 from fractions import Fraction
 
+from calls import TRIALS, calls, count
 from run import PROGRAM, REPEATS, best_time, in_folder, machine, options, report
 
 
@@ -81,10 +82,13 @@ def ladders(n, count):
     return case
 
 
+def words_of(case, folder, command, proof=None):
+    return [PROGRAM, command, '--model', 'logit', '--products', os.path.join(folder, 'products.csv'), '--limits',
+            os.path.join(folder, 'limits.csv'), '--none', str(case.none)] + (['--proof', proof] if proof else [])
+
+
 def program(case, folder, command, proof=None):
-    words = [PROGRAM, command, '--model', 'logit', '--products', os.path.join(folder, 'products.csv'), '--limits',
-             os.path.join(folder, 'limits.csv'), '--none', str(case.none)] + (['--proof', proof] if proof else [])
-    said = subprocess.run(words, stdout=subprocess.PIPE, check=True).stdout.decode()
+    said = subprocess.run(words_of(case, folder, command, proof), stdout=subprocess.PIPE, check=True).stdout.decode()
     assert command == 'solve' or said == 'accepted\n', 'a certificate was rejected'
     return said
 
@@ -154,7 +158,8 @@ def row(case, folder):
     checked, _ = best_time(lambda: program(case, folder, 'check', proof))
     write_lp(case, path)
     value = float(Fraction(said.splitlines()[-1].split()[1]))
-    cells = [case.name, '%.1f' % own, '%.1f (%.1fx)' % (solved, solved / own), '%.1f (%.1fx)' % (checked, checked / own), str(os.path.getsize(proof))]
+    trials = count(calls(words_of(case, folder, 'solve'), folder), TRIALS)
+    cells = [case.name, '%.1f' % own, trials, '%.1f (%.1fx)' % (solved, solved / own), '%.1f (%.1fx)' % (checked, checked / own), str(os.path.getsize(proof))]
     linear = None if case.binary else highs(case)
     if linear is not None:
         assert abs(linear() - value) < 1e-6 * value, 'HiGHS finds another value'
@@ -174,7 +179,8 @@ def main():
              'shelf': [lambda: shelf(64), lambda: shelf(256)],
              'ladders': [lambda: ladders(64, 8), lambda: ladders(256, 8)]}
     lines = ['Milliseconds, the least of %d; in brackets how many times the time of solve. Peers with binary variables run once, at most 10 seconds.' % REPEATS,
-             '', machine(), '', '| input | solve | solve with a certificate | check | its bytes | HiGHS | GLPK | CBC |', '|---|---|---|---|---|---|---|---|']
+             'Trials are the revenues that were tried.',
+             '', machine(), '', '| input | solve | trials | solve with a certificate | check | its bytes | HiGHS | GLPK | CBC |', '|---|---|---|---|---|---|---|---|---|']
     lines += in_folder(lambda folder: [row(make(), folder) for kind in given.kinds or cases for make in cases[kind]])
     report('solve and check under limits', lines, ['limits'], given.keep)
 
