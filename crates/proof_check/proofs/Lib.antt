@@ -1,5 +1,6 @@
 pub mod PathLemmas
 pub mod ListLemmas
+pub mod LadderListLemmas
 pub mod LadderLemmas
 pub mod SpaceLemmas
 pub mod KeptLemmas

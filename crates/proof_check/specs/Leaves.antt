@@ -16,9 +16,16 @@ use Rattle.proof_check.specs.declared.potentials.Potentials.{Potentials}
 use Rattle.proof_check.specs.declared.shelf.ShelfRow.{ShelfRow}
 use Rattle.multiplier_bound.specs.Fits.{HasLists}
 use Rattle.proof_check.specs.Potentials.{AreLimited}
+use Rattle.proof_check.specs.LadderLists.{HaveLadders}
+use Rattle.proof_check.specs.declared.ladders.Ladders.{Ladders}
 
--- The products on limited ladders, and a place for each product.
+-- The ladders of all products.
+abbrev pub AreLaddersOf : ProblemData → Ladders → Type 0
+AreLaddersOf p s = HaveLadders p (product_count p) s.lists.items s.places.items
+
+-- The ladders, the products on limited ones, and a place for each product.
 pub record HasSets (p : ProblemData) (s : Potentials) : Type 0 where
+  pub ladders : AreLaddersOf p s.ladders
   pub limited : AreLimited p s.limited
   pub usable : length s.usable ≡ product_count p
 

@@ -1,5 +1,6 @@
 pub mod Paths
 pub mod Potentials
+pub mod LadderLists
 pub mod Shelves
 pub mod Leaves
 pub mod Waiting

@@ -4,6 +4,7 @@
 mod checker;
 mod copy;
 mod kept_table;
+mod ladders;
 mod leaf;
 mod numbers;
 mod path;

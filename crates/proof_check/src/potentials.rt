@@ -6,17 +6,21 @@ ghost use Rattle.offer_model.specs.LeafBounds.{is_limited, IsUsable, Rises, Pote
 ghost use Rattle.proof_lines.specs.Lines.{AreNumbers};
 ghost use Rattle.linear_step.specs.Weights.{weight_at, prices_of, IsWithin, AreWeights};
 ghost use Rattle.proof_check.specs.Potentials.{AreLimited, AreUsable, IsBeside, FitsBeside, IsRise, Covers, CoversRises, IsPotential, worth_beside};
-ghost use Rattle.proof_check.specs.Leaves.{HasSets};
+ghost use Rattle.proof_check.specs.LadderLists.{IsLadderOf};
+ghost use Rattle.proof_check.specs.Leaves.{AreLaddersOf, HasSets};
 
+use crate::ladders::Ladders;
 use crate::numbers::{number_at, plus, signed};
 use limit_rules::may_stand;
 use linear_step::Weights;
 use offer_model::{Assortment, Limit, Mark, NoMemory, Node, Problem, Product, Wide};
 use std::alloc::Global;
 
-/// Two sets of products: those on a ladder that has a limit, and those that a leaf's potentials speak of.
+/// Two sets of products, those on a ladder that has a limit, and those that a leaf's potentials speak of; and the products of
+/// each ladder.
 #[derive(Drop)]
 pub(crate) struct Potentials {
+    ladders: Ladders,
     limited: Assortment,
     usable: Assortment,
 }
@@ -67,14 +71,15 @@ fn is_beside(p: &Problem, node: &Node, i: usize, j: usize) -> bool
 }
 
 /// Whether product `i` may be offered together with each product of its ladder that is In.
-fn fits_beside(p: &Problem, node: &Node, i: usize) -> bool
+fn fits_beside(p: &Problem, node: &Node, i: usize, ladder: &[usize]) -> bool
     requires node { length node.now ≡ product_count p.now }
     requires product { i < product_count p.now }
+    requires ladder { IsLadderOf p.now i ladder.now }
     ensures { IsTrue result ↔ FitsBeside p.now node.now i }
 {
     let product = p.products().get(i);
-    for j in 0..node.len() {
-        if is_beside(p, node, i, j) && !stand_together(product, p.products().get(j)) {
+    for j in ladder {
+        if is_beside(p, node, i, *j) && !stand_together(product, p.products().get(*j)) {
             return false;
         }
     }
@@ -82,24 +87,32 @@ fn fits_beside(p: &Problem, node: &Node, i: usize) -> bool
 }
 
 /// Whether product `i` is Open, on a limited ladder, and may stand together with what is In.
-fn is_usable(p: &Problem, limited: &Assortment, node: &Node, i: usize) -> bool
+fn is_usable(p: &Problem, ladders: &Ladders, limited: &Assortment, node: &Node, i: usize) -> bool
+    requires ladders { AreLaddersOf p.now ladders.now }
     requires limited { AreLimited p.now limited.now }
     requires node { length node.now ≡ product_count p.now }
     requires product { i < product_count p.now }
     ensures { IsTrue result ↔ IsUsable p.now node.now i }
 {
-    node.mark(i) == Mark::Open && limited.offers(i) && fits_beside(p, node, i)
+    node.mark(i) == Mark::Open && limited.offers(i) && fits_beside(p, node, i, ladders.of(p, i))
 }
 
 /// Finds the products that are usable at the node.
-fn find_usable(p: &Problem, limited: &Assortment, node: &Node, usable: &mut Assortment)
+fn find_usable(
+    p: &Problem,
+    ladders: &Ladders,
+    limited: &Assortment,
+    node: &Node,
+    usable: &mut Assortment,
+)
+    requires ladders { AreLaddersOf p.now ladders.now }
     requires limited { AreLimited p.now limited.now }
     requires node { length node.now ≡ product_count p.now }
     requires usable { length usable.old ≡ product_count p.now }
     ensures { AreUsable p.now node.now usable.new }
 {
     for i in 0..node.len() {
-        usable.set(i, is_usable(p, limited, node, i));
+        usable.set(i, is_usable(p, ladders, limited, node, i));
     }
 }
 
@@ -140,16 +153,18 @@ fn covers_rises(
     usable: &Assortment,
     numbers: &Wide,
     i: usize,
+    ladder: &[usize],
 ) -> bool
     requires weights { AreWeights p.now weights.now }
     requires usable { length usable.now ≡ product_count p.now }
     requires each { length numbers.now.items ≡ product_count p.now }
     requires numbers { AreNumbers numbers.now.items }
     requires product { i < product_count p.now }
+    requires ladder { IsLadderOf p.now i ladder.now }
     ensures { IsTrue result ↔ CoversRises p.now (weight_at weights.now) usable.now numbers.now.items i }
 {
-    for j in 0..usable.len() {
-        if is_rise(p, usable, i, j) && !covers(weights, numbers, i, j) {
+    for j in ladder {
+        if is_rise(p, usable, i, *j) && !covers(weights, numbers, i, *j) {
             return false;
         }
     }
@@ -159,11 +174,13 @@ fn covers_rises(
 /// Whether the number of product `i` may be its potential.
 fn is_potential(
     p: &Problem,
+    ladders: &Ladders,
     weights: &Weights,
     usable: &Assortment,
     numbers: &Wide,
     i: usize,
 ) -> bool
+    requires ladders { AreLaddersOf p.now ladders.now }
     requires weights { AreWeights p.now weights.now }
     requires usable { length usable.now ≡ product_count p.now }
     requires each { length numbers.now.items ≡ product_count p.now }
@@ -173,14 +190,22 @@ fn is_potential(
 {
     let number = number_at(numbers, i);
     if usable.offers(i) {
-        weights.get(i) <= signed(number) && covers_rises(p, weights, usable, numbers, i)
+        weights.get(i) <= signed(number)
+            && covers_rises(p, weights, usable, numbers, i, ladders.of(p, i))
     } else {
         number == 0
     }
 }
 
 /// Whether these may be the potentials, one for each product.
-fn are_potentials(p: &Problem, weights: &Weights, usable: &Assortment, numbers: &Wide) -> bool
+fn are_potentials(
+    p: &Problem,
+    ladders: &Ladders,
+    weights: &Weights,
+    usable: &Assortment,
+    numbers: &Wide,
+) -> bool
+    requires ladders { AreLaddersOf p.now ladders.now }
     requires weights { AreWeights p.now weights.now }
     requires usable { length usable.now ≡ product_count p.now }
     requires each { length numbers.now.items ≡ product_count p.now }
@@ -189,7 +214,7 @@ fn are_potentials(p: &Problem, weights: &Weights, usable: &Assortment, numbers: 
         → IsPotential p.now (weight_at weights.now) usable.now numbers.now.items i) }
 {
     for i in 0..numbers.len() {
-        if !is_potential(p, weights, usable, numbers, i) {
+        if !is_potential(p, ladders, weights, usable, numbers, i) {
             return false;
         }
     }
@@ -279,8 +304,11 @@ impl Potentials {
         let count = p.products().len();
         let mut limited = Assortment::empty(alloc, count)?;
         find_limited(p, &mut limited);
-        let usable = Assortment::empty(alloc, count)?;
-        Ok(Potentials { limited, usable })
+        Ok(Potentials {
+            ladders: Ladders::new(alloc, p)?,
+            limited,
+            usable: Assortment::empty(alloc, count)?,
+        })
     }
 
     /// Whether these may be the potentials at the node.
@@ -301,8 +329,8 @@ impl Potentials {
         if numbers.len() != node.len() {
             return false;
         }
-        find_usable(p, &self.limited, node, &mut self.usable);
-        are_potentials(p, weights, &self.usable, numbers)
+        find_usable(p, &self.ladders, &self.limited, node, &mut self.usable);
+        are_potentials(p, &self.ladders, weights, &self.usable, numbers)
     }
 
     /// The bound of these potentials at the node.
