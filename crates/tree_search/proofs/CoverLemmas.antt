@@ -10,7 +10,7 @@ use Rattle.offer_model.specs.Nodes.{Completes, fill_of}
 use Rattle.offer_model.proofs.TieLemmas.{tie}
 use Rattle.tree_search.specs.Goals.{Rules, IsLawful, IsOpenOf, IsBetter, IsFeasibleFor}
 use Rattle.tree_search.specs.Turns.{Walk, IsBeaten, IsDropped, IsOutcome, IsBestAfter, IsTaken, Turn, IsSound, least, HasBoundInRange}
-use Rattle.tree_search.specs.Progress.{CompletesSome, Covers, Has, IsFeasibleBest, IsOwn}
+use Rattle.tree_search.specs.Progress.{CompletesSome, Covers, Matches, HasBy, Has, IsFeasibleBest, IsOwn, IsReached}
 use Rattle.tree_search.proofs.OrderLemmas.{before_total, fill_length, fill_only, divided, better_trans}
 
 module _ (r : Rules) where
@@ -66,6 +66,50 @@ module _ (r : Rules) where
   met_feasible old new x p q (inl t) = subst (IsFeasibleBest r) (sym t.1) q
   met_feasible old new x p q (inr t) = subst (IsFeasibleBest r) (sym t.1) p
 
+  -- ---- The same of matching, which asks for less.
+
+  beaten_matches : (best : Option (List Bool)) (node : List Mark) (y : List Bool) → r.value y ≤ℤ r.bound node → IsBeaten r best node → Matches r best y
+  beaten_matches None node y v e = absurd e
+  beaten_matches (Some b) node y v (inl low) = omega (arith, ints)
+  beaten_matches (Some b) node y v (inr same) = let s = same.0 in omega (arith, ints)
+
+  seen_matches : (best : Option (List Bool)) (seen : ℤ) (node : List Mark) (y : List Bool) → IsReached r best seen → r.value y ≤ℤ r.bound node
+      → r.bound node <ℤ seen → least ≤ℤ r.bound node → Matches r best y
+  seen_matches None seen node y s v l f = absurd (omega (arith, ints))
+  seen_matches (Some b) seen node y s v l f = omega (arith, ints)
+
+  met_matches : (old new : Option (List Bool)) (x : List Bool) → length x ≡ r.products → IsFeasibleBest r old → IsBestAfter r x old new → Matches r new x
+  met_matches old new x l f (inl t) = subst (λ (b : Option (List Bool)). Matches r b x) (sym t.1) (omega (arith, ints))
+  met_matches None new x l f (inr t) = absurd (t.0 tt)
+  met_matches (Some b) new x l f (inr t) = subst (λ (o : Option (List Bool)). Matches r o x) (sym t.1) (no_better t.0)
+    where
+      by_value : (IsBetter r x b → ⊥) → (r.value b <ℤ r.value x) ⊎ (r.value x ≤ℤ r.value b) → r.value x ≤ℤ r.value b
+      by_value n (inl a) = absurd (n (inl a))
+      by_value n (inr a) = a
+
+      no_better : (IsBetter r x b → ⊥) → r.value x ≤ℤ r.value b
+      no_better n = by_value n (grind (arith, ints))
+
+  grown_matches : (old new : Option (List Bool)) (x y : List Bool) → IsBestAfter r x old new → Matches r old y → Matches r new y
+  grown_matches old new x y (inr t) c = subst (λ (b : Option (List Bool)). Matches r b y) (sym t.1) c
+  grown_matches None new x y (inl t) c = absurd c
+  grown_matches (Some b) new x y (inl t) c = subst (λ (o : Option (List Bool)). Matches r o y) (sym t.1) (more t.0)
+    where
+      more : IsBetter r x b → r.value y ≤ℤ r.value x
+      more (inl a) = omega (arith, ints)
+      more (inr a) = let s = a.0 in omega (arith, ints)
+
+  -- What a best does for assortments: for each that is met, and still after a better one is.
+  record Keeps (Does : Option (List Bool) → List Bool → Type 0) : Type 0 where
+    pub met : (old new : Option (List Bool)) (x : List Bool) → length x ≡ r.products → IsFeasibleBest r old → IsBestAfter r x old new → Does new x
+    pub grown : (old new : Option (List Bool)) (x y : List Bool) → IsBestAfter r x old new → Does old y → Does new y
+
+  covers_keeps : Keeps (Covers r)
+  covers_keeps = record { met = met_covers; grown = grown }
+
+  matches_keeps : Keeps (Matches r)
+  matches_keeps = record { met = met_matches; grown = grown_matches }
+
   module _ (law : IsLawful r) (seen : ℤ) (old new : Walk) (feasible : IsFeasibleBest r old.best) (node : List Mark) (rest : List (List Mark))
       (top : old.stack ≡ node ∷ rest) (long : length node ≡ r.products) where
     -- The best covers each feasible completion of a node that is dropped, where the number seen is the best's value.
@@ -79,30 +123,40 @@ module _ (r : Rules) where
         by_case v free (inr (inl l)) = seen_covers old.best seen node y own v l (subst (HasBoundInRange r) top range free)
         by_case v free (inr (inr b)) = beaten_covers old.best node y c long v feasible b
 
-    module _ (y : List Bool) where
-      taken_has : (o : Option ℕ) → IsOpenOf node o → IsTaken r old node rest o new → CompletesSome (node ∷ rest) y ⊎ Covers r old.best y → Has r new y
-      taken_has None full t (inl (inl c)) = inr (subst (Covers r new.best) (fill_only node y full c) (met_covers old.best new.best (fill_of node) (fill_length node ∙ long)
+    -- The best matches them, where the number seen is at most one more.
+    dropped_matches : (y : List Bool) → Completes node y → r.Feasible y → IsReached r old.best seen → HasBoundInRange r old.stack
+        → IsDropped r seen old.best node → Matches r old.best y
+    dropped_matches y c f reached range d =
+        by_case (law.bounded node y long c f) (λ k. law.clashing node y long k c f) d
+      where
+        by_case : r.value y ≤ℤ r.bound node → (r.Clashing node → ⊥) → IsDropped r seen old.best node → Matches r old.best y
+        by_case v free (inl k) = absurd (free k)
+        by_case v free (inr (inl l)) = seen_matches old.best seen node y reached v l (subst (HasBoundInRange r) top range free)
+        by_case v free (inr (inr b)) = beaten_matches old.best node y v b
+
+    module _ (Does : Option (List Bool) → List Bool → Type 0) (keeps : Keeps Does) (y : List Bool) where
+      taken_has : (o : Option ℕ) → IsOpenOf node o → IsTaken r old node rest o new → CompletesSome (node ∷ rest) y ⊎ Does old.best y → HasBy Does new y
+      taken_has None full t (inl (inl c)) = inr (subst (Does new.best) (fill_only node y full c) (keeps.met old.best new.best (fill_of node) (fill_length node ∙ long)
           feasible t.1))
       taken_has None full t (inl (inr c)) = inl (subst (λ (s : List (List Mark)). CompletesSome s y) (sym t.0) c)
-      taken_has None full t (inr c) = inr (grown old.best new.best (fill_of node) y t.1 c)
-      taken_has (Some i) is t h = subst (λ (w : Walk). Has r w y) (sym t) (split h)
+      taken_has None full t (inr c) = inr (keeps.grown old.best new.best (fill_of node) y t.1 c)
+      taken_has (Some i) is t h = subst (λ (w : Walk). HasBy Does w y) (sym t) (split h)
         where
-          split : CompletesSome (node ∷ rest) y ⊎ Covers r old.best y
-              → CompletesSome (slice_set node i In ∷ slice_set node i Out ∷ rest) y ⊎ Covers r old.best y
+          split : CompletesSome (node ∷ rest) y ⊎ Does old.best y
+              → CompletesSome (slice_set node i In ∷ slice_set node i Out ∷ rest) y ⊎ Does old.best y
           split (inl (inl c)) = ⊎_elim (λ d. inl (inl d)) (λ d. inl (inr (inl d))) (divided node y i c)
           split (inl (inr c)) = inl (inr (inr c))
           split (inr c) = inr c
 
-      turned_has : r.Feasible y → IsOwn r old.best seen → HasBoundInRange r old.stack
-          → IsOutcome r seen old node rest new
-          → CompletesSome (node ∷ rest) y ⊎ Covers r old.best y → Has r new y
-      turned_has f own range (inl d) h = subst (λ (w : Walk). Has r w y) (sym d.1) (below h)
+      turned_has : (Completes node y → IsDropped r seen old.best node → Does old.best y) → IsOutcome r seen old node rest new
+          → CompletesSome (node ∷ rest) y ⊎ Does old.best y → HasBy Does new y
+      turned_has dropped (inl d) h = subst (λ (w : Walk). HasBy Does w y) (sym d.1) (below h)
         where
-          below : CompletesSome (node ∷ rest) y ⊎ Covers r old.best y → CompletesSome rest y ⊎ Covers r old.best y
-          below (inl (inl c)) = inr (dropped_covers y c f own range d.0)
+          below : CompletesSome (node ∷ rest) y ⊎ Does old.best y → CompletesSome rest y ⊎ Does old.best y
+          below (inl (inl c)) = inr (dropped c d.0)
           below (inl (inr c)) = inl c
           below (inr c) = inr c
-      turned_has f own range (inr t) h = taken_has (r.next node) (law.next node long) t.1 h
+      turned_has dropped (inr t) h = taken_has (r.next node) (law.next node long) t.1 h
 
     taken_feasible : (o : Option ℕ) → IsOpenOf node o → (r.Clashing node → ⊥) → IsTaken r old node rest o new → IsFeasibleBest r new.best
     taken_feasible None full free t = met_feasible old.best new.best (fill_of node) feasible (fill_length node ∙ long, law.full node long full free) t.1
@@ -124,8 +178,17 @@ module _ (r : Rules) where
     pub turn_has : (y : List Bool) → r.Feasible y → IsOwn r old.best seen → HasBoundInRange r old.stack → Has r old y → Has r new y
     turn_has y f own range h =
         let long = top_long old turn.node turn.rest turn.top p sound in
-        turned_has law seen old new feasible turn.node turn.rest turn.top long y f own range turn.outcome
+        turned_has law seen old new feasible turn.node turn.rest turn.top long (Covers r) covers_keeps y
+        (λ c d. dropped_covers law seen old new feasible turn.node turn.rest turn.top long y c f own range d) turn.outcome
         (subst (λ (s : List (List Mark)). CompletesSome s y ⊎ Covers r old.best y) turn.top h)
+
+    pub turn_matches : (y : List Bool) → r.Feasible y → IsReached r old.best seen → HasBoundInRange r old.stack
+        → HasBy (Matches r) old y → HasBy (Matches r) new y
+    turn_matches y f reached range h =
+        let long = top_long old turn.node turn.rest turn.top p sound in
+        turned_has law seen old new feasible turn.node turn.rest turn.top long (Matches r) matches_keeps y
+        (λ c d. dropped_matches law seen old new feasible turn.node turn.rest turn.top long y c f reached range d) turn.outcome
+        (subst (λ (s : List (List Mark)). CompletesSome s y ⊎ Matches r old.best y) turn.top h)
 
     pub turn_feasible : IsFeasibleBest r new.best
     turn_feasible = turned_feasible law seen old new feasible turn.node turn.rest turn.top (top_long old turn.node turn.rest turn.top p sound) turn.outcome

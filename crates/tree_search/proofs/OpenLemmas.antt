@@ -3,9 +3,10 @@ use Rattle.std.proofs.Common.{◌≡◌, ◌≢◌, ℕ, zero, suc, ◌<◌, tru
 use Rattle.std.specs.Prelude.{option_map}
 use Rattle.offer_model.specs.declared.node.Mark.{Mark}
 use Rattle.offer_model.specs.declared.node.Mark.TheVariants.{Open, In, Out}
+use Rattle.offer_model.specs.declared.products.Limit.{Limit}
 use Rattle.offer_model.specs.Nodes.{mark_at}
 use Rattle.tree_search.specs.declared.ranking.Ranked.{Ranked}
-use Rattle.tree_search.specs.Opens.{is_open, first_open, first_ranked}
+use Rattle.tree_search.specs.Opens.{is_open, first_open, first_ranked, forced_by, first_forced}
 
 pub first_is : (node : List Mark) (i : ℕ) → i < length node → ((k : ℕ) → k < i → mark_at node k ≢ Open) → mark_at node i ≡ Open → first_open node ≡ Some i
 first_is [] i l none at = absurd (omega arith)
@@ -33,3 +34,15 @@ pub ranked_none : (order : List Ranked) (node : List Mark) (d : Ranked) → ((j 
     → first_ranked order node ≡ None
 ranked_none [] node d none = refl
 ranked_none (r ∷ order) node d none = rw (none 0 (omega arith)) (ranked_none order node d (λ j m. none (suc j) (omega arith)))
+
+pub forced_is : (limits : List Limit) (node : List Mark) (k i : ℕ) (d : Limit) → k < length limits
+    → ((j : ℕ) → j < k → forced_by node (get_or limits j d) ≡ None) → forced_by node (get_or limits k d) ≡ Some i → first_forced limits node ≡ Some i
+forced_is [] node k i d l none at = absurd (omega arith)
+forced_is (limit ∷ limits) node zero i d l none at = rw at refl
+forced_is (limit ∷ limits) node (suc k) i d l none at =
+    rw (none 0 (omega arith)) (forced_is limits node k i d (omega arith) (λ j m. none (suc j) (omega arith)) at)
+
+pub forced_none : (limits : List Limit) (node : List Mark) (d : Limit) → ((j : ℕ) → j < length limits → forced_by node (get_or limits j d) ≡ None)
+    → first_forced limits node ≡ None
+forced_none [] node d none = refl
+forced_none (limit ∷ limits) node d none = rw (none 0 (omega arith)) (forced_none limits node d (λ j m. none (suc j) (omega arith)))

@@ -6,10 +6,10 @@ use Rattle.std.specs.Prelude.{ℤ}
 use Rattle.offer_model.specs.declared.node.Mark.{Mark}
 use Rattle.offer_model.specs.Nodes.{Completes, open_node}
 use Rattle.offer_model.proofs.CompletionLemmas.{Completes-open}
-use Rattle.tree_search.specs.Goals.{Rules, IsFeasibleFor, IsTop}
+use Rattle.tree_search.specs.Goals.{Rules, IsFeasibleFor, IsTop, IsGreatestOf}
 use Rattle.tree_search.specs.Tasks.{depth_of, tasks_of, task_of}
 use Rattle.tree_search.specs.Turns.{Walk, with_stack, BecomesBest, IsBestAfter, IsTaken, Turn}
-use Rattle.tree_search.specs.Progress.{CompletesSome, Covers, Has, IsFeasibleBest, Progress}
+use Rattle.tree_search.specs.Progress.{CompletesSome, Covers, Matches, HasBy, IsFeasibleBest, Progress}
 use Rattle.tree_search.proofs.OrderLemmas.{better_other}
 use Rattle.tree_search.proofs.TaskLemmas.{tasks_cover}
 
@@ -45,34 +45,45 @@ module _ (r : Rules) where
 
   -- ---- Progress.
 
-  pub progress_starts : (w : Walk) → w ≡ record { stack = []; best = None; products = r.products } → Progress r 0 w
-  progress_starts w e = record {
-    products = ap (λ (v : Walk). v.products) e;
-    best = subst (λ (v : Walk). IsFeasibleBest r v.best) (sym e) tt;
-    each = λ y f. (let t = tasks_cover r (depth_of r.products) (open_node r.products) y (Completes-open r.products y f.0) in inl (t.0, omega arith, t.1, t.2));
-  }
+  module _ (Does : Option (List Bool) → List Bool → Type 0) where
+    pub progress_starts : (w : Walk) → w ≡ record { stack = []; best = None; products = r.products } → Progress r Does 0 w
+    progress_starts w e = record {
+      products = ap (λ (v : Walk). v.products) e;
+      best = subst (λ (v : Walk). IsFeasibleBest r v.best) (sym e) tt;
+      each = λ y f. (let t = tasks_cover r (depth_of r.products) (open_node r.products) y (Completes-open r.products y f.0) in inl (t.0, omega arith, t.1, t.2));
+    }
 
-  emptied : (y : List Bool) (w : Walk) → w.stack ≡ [] → Has r w y → Covers r w.best y
-  emptied y w e (inl s) = absurd (subst (λ (st : List (List Mark)). CompletesSome st y) e s)
-  emptied y w e (inr k) = k
+    emptied : (y : List Bool) (w : Walk) → w.stack ≡ [] → HasBy Does w y → Does w.best y
+    emptied y w e (inl s) = absurd (subst (λ (st : List (List Mark)). CompletesSome st y) e s)
+    emptied y w e (inr k) = k
 
-  pub progress_more : (k : ℕ) (w v u : Walk) → Progress r k w → w.stack ≡ []
-      → v ≡ with_stack w (task_of r k ∷ [])
-      → ((y : List Bool) → r.Feasible y → Has r v y → Has r u y) → IsFeasibleBest r u.best → u.products ≡ v.products → Progress r (k + 1) u
-  progress_more k w v u pr e is kept f p = record {
-    products = p ∙ (ap (λ (x : Walk). x.products) is ∙ pr.products);
-    best = f;
-    each = λ y g. ⊎_elim
-        (λ t. dite (ℕ_discrete t.0 k)
-        (λ now. inr (kept y g.1 (subst (λ (x : Walk). Has r x y) (sym is) (inl (inl (subst (λ (j : ℕ). Completes (task_of r j) y) now t.3))))))
-        (λ later. (let a = t.1 in inl (t.0, omega arith, t.2, t.3))))
-        (λ h. inr (kept y g.1 (subst (λ (x : Walk). Has r x y) (sym is) (inr (emptied y w e h)))))
-        (pr.each y g);
-  }
+    pub progress_more : (k : ℕ) (w v u : Walk) → Progress r Does k w → w.stack ≡ []
+        → v ≡ with_stack w (task_of r k ∷ [])
+        → ((y : List Bool) → r.Feasible y → HasBy Does v y → HasBy Does u y) → IsFeasibleBest r u.best → u.products ≡ v.products → Progress r Does (k + 1) u
+    progress_more k w v u pr e is kept f p = record {
+      products = p ∙ (ap (λ (x : Walk). x.products) is ∙ pr.products);
+      best = f;
+      each = λ y g. ⊎_elim
+          (λ t. dite (ℕ_discrete t.0 k)
+          (λ now. inr (kept y g.1 (subst (λ (x : Walk). HasBy Does x y) (sym is) (inl (inl (subst (λ (j : ℕ). Completes (task_of r j) y) now t.3))))))
+          (λ later. (let a = t.1 in inl (t.0, omega arith, t.2, t.3))))
+          (λ h. inr (kept y g.1 (subst (λ (x : Walk). HasBy Does x y) (sym is) (inr (emptied y w e h)))))
+          (pr.each y g);
+    }
+
+    done_each : (k : ℕ) (w : Walk) → tasks_of r.products ≤ k → Progress r Does k w → w.stack ≡ [] → (y : List Bool) → IsFeasibleFor r y → Does w.best y
+    done_each k w m pr e y f = ⊎_elim (λ t. (let a = t.1 in let b = t.2 in absurd (omega arith))) (emptied y w e) (pr.each y f)
 
   covers_top : (best : Option (List Bool)) → IsFeasibleBest r best → ((y : List Bool) → IsFeasibleFor r y → Covers r best y) → IsTop r best
   covers_top None f c = c
   covers_top (Some x) f c = (f, λ y g n. ⊎_elim (λ e. absurd (n (sym e))) (λ b. b) (c y g))
 
-  pub progress_ends : (k : ℕ) (w : Walk) → tasks_of r.products ≤ k → Progress r k w → w.stack ≡ [] → IsTop r w.best
-  progress_ends k w m pr e = covers_top w.best pr.best (λ y f. ⊎_elim (λ t. (let a = t.1 in let b = t.2 in absurd (omega arith))) (emptied y w e) (pr.each y f))
+  pub progress_ends : (k : ℕ) (w : Walk) → tasks_of r.products ≤ k → Progress r (Covers r) k w → w.stack ≡ [] → IsTop r w.best
+  progress_ends k w m pr e = covers_top w.best pr.best (done_each (Covers r) k w m pr e)
+
+  matches_greatest : (best : Option (List Bool)) → IsFeasibleBest r best → ((y : List Bool) → IsFeasibleFor r y → Matches r best y) → IsGreatestOf r best
+  matches_greatest None f c = c
+  matches_greatest (Some x) f c = (f, c)
+
+  pub matched_ends : (k : ℕ) (w : Walk) → tasks_of r.products ≤ k → Progress r (Matches r) k w → w.stack ≡ [] → IsGreatestOf r w.best
+  matched_ends k w m pr e = matches_greatest w.best pr.best (done_each (Matches r) k w m pr e)

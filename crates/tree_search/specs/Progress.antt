@@ -1,5 +1,5 @@
 -- How far a search has come. Within the crate.
-use Rattle.std.specs.Prelude.{◌≡◌, ◌⊎◌, ⊤, ℕ, ◌<◌, ◌≤◌, ℤ, Bool, Option, Some, None, List, [], ◌∷◌}
+use Rattle.std.specs.Prelude.{◌≡◌, ◌⊎◌, ⊤, ℕ, ◌<◌, ◌≤◌, ℤ, pos, ◌+ℤ◌, ◌≤ℤ◌, Bool, Option, Some, None, List, [], ◌∷◌}
 use Rattle.offer_model.specs.declared.node.Mark.{Mark}
 use Rattle.offer_model.specs.Nodes.{Completes}
 use Rattle.tree_search.specs.Goals.{Rules, IsFeasibleFor, IsBetter}
@@ -16,9 +16,17 @@ abbrev pub Covers : Rules → Option (List Bool) → List Bool → Type 0
 Covers r None y = ⊥
 Covers r (Some best) y = (best ≡ y) ⊎ IsBetter r best y
 
--- The walker has yet to meet the assortment, or its best covers it.
+-- The best is worth as much as the assortment, or more.
+abbrev pub Matches : Rules → Option (List Bool) → List Bool → Type 0
+Matches r None y = ⊥
+Matches r (Some best) y = r.value y ≤ℤ r.value best
+
+-- The walker has yet to meet the assortment, or its best does for it, by covering or by matching it.
+abbrev pub HasBy : (Option (List Bool) → List Bool → Type 0) → Walk → List Bool → Type 0
+HasBy Does w y = CompletesSome w.stack y ⊎ Does w.best y
+
 abbrev pub Has : Rules → Walk → List Bool → Type 0
-Has r w y = CompletesSome w.stack y ⊎ Covers r w.best y
+Has r w y = HasBy (Covers r) w y
 
 abbrev pub IsFeasibleBest : Rules → Option (List Bool) → Type 0
 IsFeasibleBest r None = ⊤
@@ -29,12 +37,18 @@ abbrev pub IsOwn : Rules → Option (List Bool) → ℤ → Type 0
 IsOwn r None seen = seen ≡ least
 IsOwn r (Some best) seen = seen ≡ r.value best
 
+-- At most the best's value and one, or the least number of 128 bits. No node whose bound is below it has a completion that is
+-- worth more than the best.
+abbrev pub IsReached : Rules → Option (List Bool) → ℤ → Type 0
+IsReached r None seen = seen ≡ least
+IsReached r (Some best) seen = seen ≤ℤ (r.value best +ℤ pos 1)
+
 -- The assortment completes the node of a task from `next` on.
 abbrev pub IsLeft : Rules → ℕ → List Bool → Type 0
 IsLeft r next y = (k : ℕ) × (next ≤ k) × (k < tasks_of r.products) × Completes (task_of r k) y
 
 -- Each feasible assortment is left, or the walker has it.
-pub record Progress (r : Rules) (next : ℕ) (w : Walk) : Type 0 where
+pub record Progress (r : Rules) (Does : Option (List Bool) → List Bool → Type 0) (next : ℕ) (w : Walk) : Type 0 where
   pub products : w.products ≡ r.products
   pub best : IsFeasibleBest r w.best
-  pub each : (y : List Bool) → IsFeasibleFor r y → IsLeft r next y ⊎ Has r w y
+  pub each : (y : List Bool) → IsFeasibleFor r y → IsLeft r next y ⊎ HasBy Does w y

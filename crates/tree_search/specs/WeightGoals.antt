@@ -51,7 +51,7 @@ weights_rules p at root lists order = record {
   Feasible = λ x. IsFeasible p x × Completes root x;
   Clashing = λ node. Clashes p node ⊎ Disagrees root node;
   bound = λ node. least_greatest p lists node (length lists - 1);
-  next = next_by order;
+  next = next_by p.limits order;
 }
 
 -- There are some lists, each has a price for each product, and sums of its prices fit.

@@ -61,5 +61,5 @@ weights_lawful p w root lists order b long = record {
   );
   bounded = λ node x l c f.
       below_least p lists node _ (length lists - 1) (λ j m. b.bounds j (let some = b.held.some in omega arith) node x f.0 c);
-  next = λ node l. next_is_open order node;
+  next = λ node l. next_is_open p.limits order node;
 }

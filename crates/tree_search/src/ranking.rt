@@ -1,17 +1,27 @@
 ghost use Rattle.std.specs.Prelude.{◌≡◌, ◌≤◌, length, vec_capacity};
 
 use multiplier_bound::PriceList;
+use offer_model::{Mark, Node};
 use std::cmp::Reverse;
 
-/// A product and its price.
+/// A product, and how early it is divided by.
 #[derive(Clone, Copy)]
 pub struct Ranked {
-    pub price: i128,
+    pub priority: i128,
     pub product: usize,
 }
 
-/// The `n` products by falling price.
-pub fn rank(n: usize, list: &PriceList, order: &mut Vec<Ranked>)
+/// What the root settles comes first, so that a node soon has all of the root's marks; then what is dearest.
+fn priority_of(mark: Mark, price: i128) -> i128 {
+    match mark {
+        Mark::In | Mark::Out => i128::MAX,
+        Mark::Open => price,
+    }
+}
+
+/// The `n` products in the order in which a search below the root divides by them.
+pub fn rank(n: usize, root: &Node, list: &PriceList, order: &mut Vec<Ranked>)
+    requires root { length root.now ≡ n }
     requires each { length list.now.each ≡ n }
     requires room { n ≤ vec_capacity order.old }
     ensures { vec_capacity order.new ≡ vec_capacity order.old }
@@ -19,9 +29,9 @@ pub fn rank(n: usize, list: &PriceList, order: &mut Vec<Ranked>)
     order.clear();
     for i in 0..n {
         order.push_reserved(Ranked {
-            price: list.price(i),
+            priority: priority_of(root.mark(i), list.price(i)),
             product: i,
         });
     }
-    order.sort_unstable_by_key(|r| Reverse(r.price));
+    order.sort_unstable_by_key(|r| Reverse(r.priority));
 }

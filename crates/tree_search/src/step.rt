@@ -6,7 +6,7 @@ ghost use Rattle.multiplier_bound.specs.Fits.{HasLists, Relaxes};
 ghost use Rattle.tree_search.specs.WeightGoals.{AreBounds};
 ghost use Rattle.tree_search.specs.SearchFits.{AreLong, FitsSearch};
 
-use crate::alone::search_alone;
+use crate::alone::search_any;
 use crate::ranking::{Ranked, rank};
 use crate::weights_goal::WeightsGoal;
 use linear_step::{Step, Steps, Weights};
@@ -84,7 +84,7 @@ impl SearchStep {
         let count = p.products().len();
         self.descent.improve(p, weights, node);
         relax_each(p, weights, &mut self.descent, &mut self.lists);
-        rank(count, &self.lists[UNSCALED], &mut self.order);
+        rank(count, node, &self.lists[UNSCALED], &mut self.order);
     }
 }
 
@@ -107,6 +107,6 @@ impl<L: Ledger> Step<L> for SearchStep {
             lists: &self.lists,
             order: &self.order,
         };
-        search_alone(self.alloc, &mut goal)
+        search_any(self.alloc, &mut goal)
     }
 }

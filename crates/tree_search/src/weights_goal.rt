@@ -141,7 +141,7 @@ impl Goal for WeightsGoal<'_> {
     }
 
     fn next(&self, node: &Node) -> Option<usize> {
-        next_by(self.order, node)
+        next_by(self.problem, self.order, node)
     }
 
     fn fork(&self, _alloc: Global) -> Result<Self, NoMemory> {
