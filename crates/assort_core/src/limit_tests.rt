@@ -294,3 +294,45 @@ fn a_catalogue_of_the_greatest_numbers_is_offered_whole(rt: HostRuntime) -> Resu
     }
     Ok(())
 }
+
+/// A table of 60 products: some first rows, and others that are alike.
+fn sixty_products(alloc: Global, first: &str, others: u32, alike: &str) -> Result<String, Fail> {
+    let mut products = String::from_str(alloc, "name,margin,attraction\n")?;
+    products.push_str(first)?;
+    for i in 0..others {
+        let line = format!(in alloc; "p{i},{alike}\n")?;
+        products.push_str(line.as_str())?;
+    }
+    Ok(products)
+}
+
+#[test]
+fn many_equals_take_no_search_through_all_of_them(rt: HostRuntime) -> Result<(), Fail> {
+    let alloc = rt.alloc();
+    let cases: [(&str, u32, &str, &str, &str); 2] = [
+        (
+            "A,10,2\nB,4,3\n",
+            58,
+            "5,0",
+            "total,,,1000\nrequires,A,B,\n",
+            "set 110000000000000000000000000000000000000000000000000000000000\nvalue 32/10\n",
+        ),
+        (
+            "",
+            60,
+            "10,3",
+            "total,,,8\nrequires,p0,p1,\n",
+            "set 000000000000000000000000000000000000000000000000000011111111\nvalue 240/29\n",
+        ),
+    ];
+    let line = "solve --model logit --products p.csv --limits m.csv --none 5";
+    for (first, others, alike, rows, report) in cases {
+        let products = sixty_products(alloc, first, others, alike)?;
+        let limits = format!(in alloc; "kind,first,second,number\n{rows}")?;
+        let (p, m) = (products.as_bytes(), limits.as_bytes());
+        let said = run_with_limits(&rt, alloc, line, p, m, b"")?;
+        assert_eq!(rt; said.status, 0);
+        assert!(rt; said.out.ends_with(report.as_bytes()));
+    }
+    Ok(())
+}

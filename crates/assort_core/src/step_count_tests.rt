@@ -1,5 +1,5 @@
 //! How often the step of caps is called for one best assortment: at most 80 times, and once more for each product.
-ghost use Rattle.std.specs.Prelude.{◌≡◌, ◌<◌};
+ghost use Rattle.std.specs.Prelude.{◌≡◌, ◌<◌, IfOk};
 ghost use Rattle.offer_model.specs.Validity.{IsRatioModel};
 ghost use Rattle.limit_rules.specs.Kinds.{kind_of};
 ghost use Rattle.limit_rules.specs.declared.kind.Kind.TheVariants as kind;
