@@ -73,27 +73,28 @@ def certificate(case, folder, own, most):
     return ['%.1f (%.1fx)' % (solved, solved / own), '%.1f (%.1fx)' % (checked, checked / own), str(lines), str(size)]
 
 
-def row(case, folder):
+def row(case, folder, most):
     case.write(folder)
     path, solution = os.path.join(folder, 'model.lp'), os.path.join(folder, 'solution')
     own, _ = best_time(lambda: program(case, folder, 'solve'), REPEATS)
     found = calls(words_of(case, folder, 'solve'), folder)
     write_lp(case, path)
-    cells = [case.name, '%.1f' % own, count(found, TRIALS), count(found, NODES)] + certificate(case, folder, own, 60)
+    cells = [case.name, '%.1f' % own, count(found, TRIALS), count(found, NODES)] + certificate(case, folder, own, most)
     for words in (['glpsol', '--lp', path, '-o', solution], ['cbc', path, 'solve', 'solu', solution, 'quit']):
-        cells.append(cell(solver(words, 60), own, 1))
+        cells.append(cell(solver(words, most), own, 1))
     return '| ' + ' | '.join(cells) + ' |'
 
 
 def main():
     parser = options(__doc__)
     parser.add_argument('--products', type=int, nargs='*', default=[12, 24, 40, 64], help='how many products, for each a row loose and one binding')
+    parser.add_argument('--seconds', type=int, default=60, help='how long a peer and the writing of a certificate may take')
     given = parser.parse_args()
-    lines = ['Milliseconds, the least of %d; in brackets how many times the time of solve. GLPK and CBC run once, at most 60 seconds. Trials are the revenues'
-             % REPEATS, 'that were tried, nodes those of all searches of one solve together, both without a certificate.',
+    lines = ['Milliseconds, the least of %d; in brackets how many times the time of solve. GLPK and CBC run once, at most %d seconds. Trials are the revenues'
+             % (REPEATS, given.seconds), 'that were tried, nodes those of all searches of one solve together, both without a certificate.',
              '', machine(), '',
              '| input | solve | trials | nodes | solve with a certificate | check | its lines | its bytes | GLPK | CBC |', '|---|---|---|---|---|---|---|---|---|---|']
-    lines += in_folder(lambda folder: [row(several(n, binding), folder) for n in given.products for binding in (False, True)])
+    lines += in_folder(lambda folder: [row(several(n, binding), folder, given.seconds) for n in given.products for binding in (False, True)])
     report('solve and check under limits of several kinds', lines, ['several'], given.keep)
 
 
