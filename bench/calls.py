@@ -1,4 +1,4 @@
-"""Counts the calls of functions in one run of the program as Rattle's own compiler builds it, by valgrind's callgrind. See README.md."""
+"""Counts the calls of functions in one run of a program that was built without inlining, by valgrind's callgrind. See README.md."""
 import os
 import re
 import shutil
@@ -9,11 +9,10 @@ TRIALS, NODES = 'linear_step::pricing::weights_at', 'limit_rules::clash::clashes
 
 
 def calls(words, folder):
-    """How often each function was called, by its name, or None where valgrind isn't installed. `rt ci` leaves a program in which
-    these functions stand by themselves; in the other one LLVM has taken them into their callers."""
+    """How often each function was called, by its name, or None where valgrind isn't installed."""
     if not shutil.which('valgrind'):
         return None
-    path, counted = os.path.join(folder, 'calls.txt'), words[0] + '.by-rattle'
+    path, counted = os.path.join(folder, 'calls.txt'), words[0] + '.counted'
     words = [counted if os.path.exists(counted) else words[0]] + words[1:]
     subprocess.run(['valgrind', '--tool=callgrind', '--callgrind-out-file=' + path] + words, stdout=subprocess.DEVNULL, stderr=subprocess.DEVNULL, check=True)
     names, found, callee = {}, {}, None
