@@ -3,29 +3,21 @@
 
 mod catalogue;
 mod cells;
-#[cfg(test)]
-mod fault_tests;
 mod faults;
 mod limit_columns;
 mod limit_kinds;
 mod limit_names;
 mod limit_rows;
-#[cfg(test)]
-mod limit_tests;
 mod limits;
 mod name_set;
 mod names;
 mod printing;
-#[cfg(test)]
-mod printing_tests;
 mod problems;
 mod product_cells;
 mod product_columns;
 mod products;
 mod segment_table;
 mod table_faults;
-#[cfg(test)]
-mod tests;
 
 pub use catalogue::Catalogue;
 pub use faults::{Code, FileName, InputFault};

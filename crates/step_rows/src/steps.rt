@@ -91,6 +91,7 @@ fn shape_of(closing: &Option<Closing>) -> &'static str {
 }
 
 /// A problem as two texts, the revenue of a trial over its denominator, a node, and what the step and the closer say.
+#[derive(Clone, Copy)]
 struct Case {
     shows: &'static str,
     products: &'static [u8],
@@ -131,8 +132,7 @@ const TWO: &[u8] = b"name,margin,attraction\nA,10,2\nB,4,3\n";
 const TWINS: &[u8] = b"name,margin,attraction\nA,10,2\nB,10,2\n";
 
 /// At 20/4 they weigh 40, 40, 8 and -32, and nothing weighs -40.
-const FOUR: &[u8] =
-    b"name,margin,attraction,category\nA,10,2,x\nB,10,2,x\nC,6,2,y\nD,1,2,\n";
+const FOUR: &[u8] = b"name,margin,attraction,category\nA,10,2,x\nB,10,2,x\nC,6,2,y\nD,1,2,\n";
 
 /// At 10/5 they weigh 40, -10 and -10, and nothing weighs -20.
 const CHAIN: &[u8] = b"name,margin,attraction\nA,10,1\nB,0,1\nC,0,1\n";
@@ -145,12 +145,18 @@ const RUNGS: &[u8] =
     b"name,margin,attraction,ladder,grade,price\nA,5,1,k,1,5\nB,8,1,k,1,8\nC,6,1,k,2,6\n";
 
 const NO_LIMITS: &[u8] = b"kind,first,second,number\n";
+
 const ONE: &[u8] = b"kind,first,second,number\ntotal,,,1\n";
+
 const TWO_AND_ONE_EACH: &[u8] =
     b"kind,first,second,number\ncategory,x,,1\ntotal,,,2\ncategory,y,,1\n";
+
 const PAIRS: &[u8] = b"kind,first,second,number\nrequires,A,B,\nrequires,B,C,\n";
+
 const SHELF: &[u8] = b"kind,first,second,number\nshelf,,,4\n";
+
 const LADDER: &[u8] = b"kind,first,second,number\nladder,k,,\n";
+
 const ONE_WITH_ITS_PAIR: &[u8] = b"kind,first,second,number\ntotal,,,1\nrequires,A,B,\n";
 
 const fn case_of(
@@ -190,7 +196,13 @@ fn a_step_answers_the_greatest_completion_and_its_closer_what_closes(
         case_of("the other finds no room", one, b"I-", Some(0), "m"),
         case_of("two of at most one", one, b"II", None, "x"),
         case_of("one of each category", each, b"----", Some(8), "m"),
-        case_of("what is In takes room in all", each, b"---I", Some(-32), "m"),
+        case_of(
+            "what is In takes room in all",
+            each,
+            b"---I",
+            Some(-32),
+            "m",
+        ),
         case_of("two of a category", each, b"IIOO", None, "x"),
         case_of("nothing is left to offer", each, b"OOII", Some(-64), "m"),
         case_of("no weight is above 0", each, b"OOO-", Some(-40), "m"),
@@ -203,7 +215,13 @@ fn a_step_answers_the_greatest_completion_and_its_closer_what_closes(
         case_of("no space beside the first", shelf, b"I--", Some(-32), "t"),
         case_of("more than the shelf holds", shelf, b"II-", None, "x"),
         case_of("one of a ladder's rungs", ladder, b"---", Some(0), "p"),
-        case_of("two rungs with rising prices", ladder, b"I--", Some(-2), "p"),
+        case_of(
+            "two rungs with rising prices",
+            ladder,
+            b"I--",
+            Some(-2),
+            "p",
+        ),
         case_of("a higher rung at a lower price", ladder, b"-II", None, "x"),
         case_of("what a pair and a cap leave", several, b"--", Some(0), ""),
         case_of("a pair above its cap", several, b"I-", None, ""),
