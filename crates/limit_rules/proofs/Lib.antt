@@ -1,2 +1,4 @@
-pub mod WorkedLemmas
 pub mod CallerLemmas
+pub mod LadderLemmas
+pub mod OrderLemmas
+pub mod WorkedKindLemmas

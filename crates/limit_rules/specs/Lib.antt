@@ -2,4 +2,5 @@ pub mod Kinds
 pub mod Measures
 pub mod Ladders
 pub mod Broken
-pub mod WorkedLimits
+pub mod LadderProducts
+pub mod WorkedKinds

@@ -1,3 +1,4 @@
+//! The first limit that an assortment breaks.
 ghost use Rattle.std.specs.Prelude.{◌≡◌, length};
 ghost use Rattle.offer_model.specs.Problems.{product_count};
 ghost use Rattle.limit_rules.specs.Broken.{IsFirstBroken};

@@ -1,3 +1,4 @@
+//! What limits are read of.
 ghost use Rattle.std.specs.Prelude.{◌≡◌, ◌<◌, List, Bool, length};
 ghost use Rattle.offer_model.specs.Assortments.{offers};
 ghost use Rattle.offer_model.specs.Nodes.{fill_of};

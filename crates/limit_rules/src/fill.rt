@@ -1,3 +1,4 @@
+//! The assortment that a node fills out to.
 ghost use Rattle.std.specs.Prelude.{◌≡◌, length};
 ghost use Rattle.offer_model.specs.Nodes.{fill_of};
 

@@ -1,3 +1,4 @@
+//! The kind of limits that a problem has.
 ghost use Rattle.std.specs.Prelude.{◌≡◌};
 ghost use Rattle.std.specs.List.{list_all};
 ghost use Rattle.limit_rules.specs.Kinds.{is_in_family, kind_of};

@@ -1,3 +1,4 @@
+//! Which products may stand together on a ladder.
 ghost use Rattle.std.specs.Prelude.{◌≡◌, ◌<◌, ◌↔◌, IsTrue, length};
 ghost use Rattle.offer_model.specs.Assortments.{offers};
 ghost use Rattle.offer_model.specs.Problems.{product_count, product_at};

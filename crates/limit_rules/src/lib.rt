@@ -10,8 +10,9 @@ mod ladder;
 mod laws;
 mod measure;
 mod meets;
-#[cfg(test)]
-mod tests;
+mod on_ladder;
+mod order;
+mod priced;
 
 pub use broken::first_broken;
 pub use clash::clashes;
@@ -19,3 +20,6 @@ pub use fill::fill_out;
 pub use kind::{Kind, kind_of};
 pub use ladder::may_stand;
 pub use laws::worked_kinds_hold;
+pub use on_ladder::ladder_products;
+pub use order::comes_after;
+pub use priced::is_priced;

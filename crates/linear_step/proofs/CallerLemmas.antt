@@ -1,15 +1,21 @@
--- How a closer shows that its closing closes the node, for the proofs of closers.
+-- For the proofs of steps and closers: a node that clashes has no completion, and what closes a node.
 use Rattle.std.proofs.Common.{◌≡◌, ◌≢◌, List, refl}
 use lib.IntN.{ℤ}
 use Rattle.offer_model.specs.declared.node.Mark.{Mark}
 use Rattle.offer_model.specs.Problems.{ProblemData}
 use Rattle.offer_model.specs.Nodes.{Clashes}
 use Rattle.offer_model.specs.Prices.{Prices}
+use Rattle.offer_model.proofs.CompletionLemmas.{clash_none}
 use Rattle.limit_rules.specs.declared.kind.Kind.{Kind}
 use Rattle.limit_rules.specs.Kinds.{kind_of}
+use Rattle.linear_step.specs.Answers.{HasNone}
 use Rattle.linear_step.specs.declared.closing.Closing.{Closing}
 use Rattle.linear_step.specs.declared.closing.Closing.TheVariants.{Clash}
 use Rattle.linear_step.specs.Closings.{IsTop, HasBound, HasShape, HasSmallNumbers, Closes}
+
+-- A node that clashes has no feasible completion.
+pub clash_has_none : (p : ProblemData) (node : List Mark) → Clashes p node → HasNone p node
+clash_has_none p node c y f k = clash_none p node y c f k
 
 -- A clash closes a node that clashes.
 pub Closes-from_clash : (p : ProblemData) (at : Prices) (node : List Mark) → Clashes p node → Closes p at node Clash

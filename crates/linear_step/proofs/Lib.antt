@@ -2,4 +2,3 @@ pub mod PushLemmas
 pub mod SameLemmas
 pub mod SizeLemmas
 pub mod CallerLemmas
-pub mod WorkedLemmas

@@ -9,7 +9,7 @@ use lib.IntN.{ℤ}
 use Rattle.offer_model.specs.Problems.{SegmentData, ProblemData, product_count, first_segment, margin_of, attraction_of, shadow_of}
 use Rattle.offer_model.specs.Prices.{Prices, prices_at}
 use Rattle.offer_model.specs.Validity.{IsProblem, IsSegment}
-use Rattle.linear_step.specs.Weights.{WeightsData, weight_at, AreAt}
+use Rattle.linear_weights.specs.Weights.{WeightsData, weight_at, AreAt}
 
 -- What stands past the end of the segments.
 abbrev nothing : SegmentData

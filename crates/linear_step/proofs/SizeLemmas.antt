@@ -3,7 +3,7 @@ use Rattle.std.proofs.Common.{ℕ, ◌+◌, ◌*◌, ◌<◌, ◌≤◌, ◌^◌
 use Rattle.std.specs.Prelude.{pos, ◌-ℤ◌}
 use Rattle.std.proofs.lemmas.Int.{ints}
 use Rattle.std.proofs.Math.Nat.{mul-le-mul_left}
-use Rattle.linear_step.specs.Weights.{price_bound, IsWithin}
+use Rattle.linear_weights.specs.Weights.{price_bound, IsWithin}
 
 -- A price, of its gain, its shadow and its attraction.
 pub IsWithin-price : (num den gain attraction shadow : ℕ) → num < 2 ^ 68 → den < 2 ^ 38 → gain ≤ 10 ^ 18

@@ -1,9 +1,10 @@
 -- What closes a node: a clash, or a bound that the node's feasible completions reach. Own.
-use Rattle.std.specs.Prelude.{◌≡◌, ◌≢◌, ◌↔◌, ◌⊎◌, ℕ, ◌^◌, ◌≤◌, Bool, List, Some, All, pos, ◌<ℤ◌}
+use Rattle.std.specs.Prelude.{◌≡◌, ◌≢◌, ◌↔◌, ◌⊎◌, ◌≤◌, Bool, List, Some, All, pos, ◌<ℤ◌}
 use lib.IntN.{ℤ}
 use Rattle.offer_model.specs.declared.node.Mark.{Mark}
 use Rattle.offer_model.specs.Problems.{ProblemData}
 use Rattle.offer_model.specs.Nodes.{Clashes}
+pub use Rattle.offer_model.specs.Ranges.{number_bound}
 use Rattle.offer_model.specs.Prices.{Prices, worth_of}
 use Rattle.offer_model.specs.LeafBounds.{MultipliersFit, multipliers_bound, shelf_bound, PotentialsFit, potentials_bound}
 use Rattle.limit_rules.specs.declared.kind.Kind.{Kind}
@@ -35,10 +36,7 @@ HasShape K.Shelf C.Shelf = Unit {0}
 HasShape K.Ladder (C.Potentials us) = Unit {0}
 HasShape _ _ = ⊥
 
--- A number of a closing is at most this: as much as a line of a certificate can say.
-abbrev pub number_bound : ℕ
-number_bound = 2 ^ 108
-
+-- Each number of a closing is at most so much.
 abbrev pub HasSmallNumbers : Closing → Type 0
 HasSmallNumbers C.Clash = Unit {0}
 HasSmallNumbers (C.Multipliers us) = All (λ u. u ≤ number_bound) us.items

@@ -1,4 +1,3 @@
-pub mod Weights
+pub use Rattle.linear_weights.specs.Weights
 pub mod Answers
 pub mod Closings
-pub mod WorkedWeights

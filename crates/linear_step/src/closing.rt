@@ -1,3 +1,4 @@
+//! What closes a node.
 use offer_model::Wide;
 
 /// What closes a node.

@@ -6,12 +6,9 @@ mod closing;
 mod pricing;
 mod step;
 mod steps;
-#[cfg(test)]
-mod tests;
-mod weights;
 
 pub use closing::Closing;
+pub use linear_weights::Weights;
 pub use pricing::weights_at;
 pub use step::{Closer, Step};
 pub use steps::Steps;
-pub use weights::Weights;

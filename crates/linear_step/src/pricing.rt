@@ -1,30 +1,22 @@
+//! The weights at a trial revenue.
 ghost use Rattle.std.specs.Prelude.{◌≡◌, ℕ, ◌*◌, ◌<◌, ◌≤◌, ◌^◌, pos, ◌-ℤ◌};
 ghost use Rattle.offer_model.specs.Assortments.{sum_below};
 ghost use Rattle.offer_model.specs.Problems.{product_count, first_segment, margin_of, attraction_of, shadow_of};
 ghost use Rattle.offer_model.specs.Ranges.{gain_bound, weight_bound};
 ghost use Rattle.offer_model.specs.Validity.{IsRatioModel};
 ghost use Rattle.offer_model.specs.Prices.{prices_at};
-ghost use Rattle.linear_step.specs.Weights.{price_bound, constant_bound, IsWithin, AreWeights, AreAt};
+ghost use Rattle.linear_weights.specs.Weights.{price_bound, constant_bound, IsWithin, AreWeights, AreAt};
 
-use crate::weights::Weights;
-use offer_model::Problem;
+use linear_weights::Weights;
+use offer_model::{Problem, product_gain};
 
+/// The difference of two numbers, either of which may be the greater.
 fn difference(a: u128, b: u128) -> i128
     requires a { a < 2 ^ 107 }
     requires b { b < 2 ^ 107 }
     ensures { result ≡ pos a -ℤ pos b }
 {
     a as i128 - b as i128
-}
-
-/// Margin times attraction of product `i`.
-fn product_gain(p: &Problem, i: usize) -> u128
-    requires model { IsRatioModel p.now.model }
-    requires product { i < product_count p.now }
-    ensures value { result ≡ margin_of p.now i * attraction_of (first_segment p.now) i }
-    ensures bound { result ≤ 10 ^ 18 }
-{
-    u128::from(p.products().get(i).margin) * u128::from(p.segments().get(0).attract(i))
 }
 
 /// The attraction of product `i`.
@@ -70,8 +62,10 @@ fn price(p: &Problem, num: u128, den: u128, i: usize) -> i128
     ensures value { result ≡ (prices_at p.now num den).price i }
     ensures small { IsWithin price_bound result }
 {
+    let segments = p.segments().len();
+    prove!(segments == 1);
     difference(
-        den * product_gain(p, i) + num * shadow(p, i),
+        den * product_gain(p, 0, i) + num * shadow(p, i),
         num * attraction(p, i),
     )
 }
@@ -93,14 +87,14 @@ pub fn weights_at(p: &Problem, num: u128, den: u128, out: &mut Weights)
     requires num { num < gain_bound }
     requires den { (1 ≤ den) × (den < weight_bound) }
     requires room { product_count p.now ≤ out.old.room }
+
+    // One for each product, small, and the prices at the revenue.
     ensures weights { AreWeights p.now out.new }
     ensures at { AreAt p.now num den out.new }
     ensures room { out.old.room ≤ out.new.room }
 {
-    out.constant = constant(p, num);
-    out.items.clear();
-    let count = p.products().len();
-    for i in 0..count {
-        out.items.push_reserved(price(p, num, den, i));
+    out.restart(constant(p, num));
+    for i in 0..p.products().len() {
+        out.push(price(p, num, den, i));
     }
 }

@@ -1,12 +1,13 @@
+//! What a step and a closer promise.
 ghost use Rattle.std.specs.Prelude.{◌≡◌, ◌+◌, ◌↔◌, length, IfOk};
 ghost use Rattle.offer_model.specs.Problems.{ProblemData, product_count};
-ghost use Rattle.linear_step.specs.Weights.{prices_of, AreWeights};
+ghost use Rattle.linear_weights.specs.Weights.{prices_of, AreWeights};
 ghost use Rattle.linear_step.specs.Answers.{Answers};
 ghost use Rattle.linear_step.specs.Closings.{Closes};
 
 use crate::closing::Closing;
 use crate::steps::Steps;
-use crate::weights::Weights;
+use linear_weights::Weights;
 use offer_model::{Assortment, NoMemory, Node, Problem};
 use std::sync::ledger::Ledger;
 

@@ -1,3 +1,4 @@
+//! A count of steps that has no bytes.
 ghost use Rattle.std.specs.Prelude.{◌≡◌, ◌+◌, ◌<◌};
 
 use std::marker::Model;

@@ -8,7 +8,7 @@ use Rattle.offer_model.specs.declared.products.Limit.TheVariants.{Total, Categor
 use Rattle.offer_model.specs.Problems.{ProblemData}
 use Rattle.offer_model.specs.Validity.{IsProblem, IsInRange, NamesExisting}
 use Rattle.offer_model.specs.LeafBounds.{is_priced, priced_limits, priced_limit_at, IsMultiplier}
-use Rattle.linear_step.specs.Closings.{number_bound}
+use Rattle.offer_model.specs.Ranges.{number_bound}
 use Rattle.multiplier_bound.specs.Fits.{MultipliersData, HasLists, AreFit, AreSmall}
 use Rattle.multiplier_bound.proofs.RelaxLemmas.{limit_is}
 

@@ -2,4 +2,3 @@ pub mod PriceLemmas
 pub mod RelaxLemmas
 pub mod CallerLemmas
 pub mod DescentLemmas
-pub mod FullNodeLemmas

@@ -5,7 +5,6 @@ use lib.IntN.{ℤ}
 use Rattle.std.proofs.lemmas.Int.{ints}
 use Rattle.std.proofs.lemmas.Option.{get_or_from_slice_get, slice_get_within}
 use Rattle.std.specs.List.{filter}
-use Rattle.std.proofs.lemmas.List.Sums.{length-filter, count_by-le-length}
 use Rattle.std.proofs.lemmas.List.Elements.{All-get_or, All-filter, All-from_recursion, filter_more}
 use Rattle.std.proofs.lemmas.List.Kept.{AllPairs-filter}
 use Rattle.std.proofs.Math.Nat.{mul-le-mul}
@@ -19,21 +18,14 @@ use Rattle.offer_model.specs.Nodes.{mark_at}
 use Rattle.offer_model.specs.Prices.{Prices, int_sum_below, positive_part, most_of}
 use Rattle.offer_model.specs.Validity.{IsProblem, IsProduct, IsInRange, NamesExisting, Repeats, is_shelf}
 use Rattle.offer_model.specs.LeafBounds.{is_priced, priced_limits, priced_limit_at, taken_by, added_by, allowed_by, IsMultiplier, taken_off, added_to, allowed_in_all, relaxed}
-use Rattle.offer_model.proofs.SumLemmas.{point_le}
+use Rattle.offer_model.proofs.SumLemmas.{point_le, sum_most}
+use Rattle.offer_model.proofs.LimitLemmas.{priced_limits-few}
 use Rattle.offer_model.proofs.MultiplierLemmas.{exchanged}
-use Rattle.linear_step.specs.Weights.{IsWithin, WeightsData, AreWeights, weight_at, prices_of}
+use Rattle.linear_weights.specs.Weights.{IsWithin, WeightsData, AreWeights, SumsFit, weight_at, prices_of}
 use Rattle.multiplier_bound.specs.Fits.{AreFit, AreNumbers}
-use Rattle.multiplier_bound.specs.Pricing.{PriceListData, SumsFit, price_in, prices_in, IsMoved, AreRelaxed}
-use Rattle.multiplier_bound.proofs.PriceLemmas.{int_sum_same}
+use Rattle.multiplier_bound.specs.Pricing.{IsMoved, AreRelaxed}
 
 -- ---- Sums of bounded parts.
-
-sum_most : (n c : ℕ) (f : ℕ → ℕ) → ((i : ℕ) → i < n → f i ≤ c) → sum_below n f ≤ n * c
-sum_most zero c f h = omega arith
-sum_most (suc n) c f h =
-    let before = sum_most n c f (λ i l. h i (omega arith)) in
-    let here = h n (omega arith) in
-    omega arith
 
 -- Where at most one part is exceptional.
 sum_with_one : (m : ℕ) (f : ℕ → ℕ) (s : ℕ → Bool) (a b : ℕ) → ((k : ℕ) → k < m → f k ≤ a + cond (s k) b 0)
@@ -124,10 +116,6 @@ added_in_all (Ladder k) u n h = let all = sum_most n 0 (λ i. 0) (λ i k. omega 
 
 -- ---- All limits.
 
--- There are at most 1,024 priced limits.
-priced_few : (p : ProblemData) → IsProblem p → length (priced_limits p) ≤ 1024
-priced_few p v = let some = length-filter is_priced p.limits in let all = count_by-le-length is_priced p.limits in let few = v.limits.few in omega arith
-
 number_small : (us : List ℕ) (k : ℕ) → AreNumbers us → k < length us → slice_index us k ≤ 2 ^ 108
 number_small us k a l = All-get_or (λ n. n ≤ 2 ^ 108) us k 0 l (All-from_recursion (λ n. n ≤ 2 ^ 108) us a)
 
@@ -135,7 +123,7 @@ pub number_is : (p : ProblemData) (us : List ℕ) (k : ℕ) → AreFit p us → 
 number_is p us k f l = record { fits = f.fit.small k l; small = number_small us k f.numbers l }
 
 pub us_few : (p : ProblemData) (us : List ℕ) → AreFit p us → length us ≤ 1024
-us_few p us f = let each = f.fit.each in let few = priced_few p f.valid in omega arith
+us_few p us f = let each = f.fit.each in let few = priced_limits-few p f.valid in omega arith
 
 inside_priced : (p : ProblemData) (us : List ℕ) (k : ℕ) → AreFit p us → k < length us → k < length (priced_limits p)
 inside_priced p us k f l = let each = f.fit.each in omega arith
@@ -209,13 +197,13 @@ wider : (z : ℤ) → IsWithin (2 ^ 98) z → IsWithin (2 ^ 106) z
 wider z w = let low = w.0 in let high = w.1 in (omega (arith, ints), omega (arith, ints))
 
 -- The prices on the way are small.
-pub relaxed_small : (p : ProblemData) (us : List ℕ) (w : WeightsData) (list : PriceListData) (k i : ℕ) → AreFit p us → AreWeights p w → k ≤ length us
-    → AreRelaxed p us (prices_of w) list k → i < product_count p → IsWithin (2 ^ 122) (price_in list i)
+pub relaxed_small : (p : ProblemData) (us : List ℕ) (w : WeightsData) (list : WeightsData) (k i : ℕ) → AreFit p us → AreWeights p w → k ≤ length us
+    → AreRelaxed p us (prices_of w) list k → i < product_count p → IsWithin (2 ^ 122) (weight_at list i)
 relaxed_small p us w list k i f s l r h =
     let up = added_so_far p us k i f l in
-    moved_within (weight_at w i) (price_in list i) _ _ (wider (weight_at w i) (s.small i h)) (omega arith) (taken_so_far p us k i f l h) (r.price i h)
+    moved_within (weight_at w i) (weight_at list i) _ _ (wider (weight_at w i) (s.small i h)) (omega arith) (taken_so_far p us k i f l h) (r.price i h)
 
-pub constant_small : (p : ProblemData) (us : List ℕ) (w : WeightsData) (list : PriceListData) (k : ℕ) → AreFit p us → AreWeights p w → k ≤ length us
+pub constant_small : (p : ProblemData) (us : List ℕ) (w : WeightsData) (list : WeightsData) (k : ℕ) → AreFit p us → AreWeights p w → k ≤ length us
     → AreRelaxed p us (prices_of w) list k → IsWithin (2 ^ 122) list.constant
 constant_small p us w list k f s l r =
     let up = allowed_so_far p us k f l in
@@ -229,11 +217,11 @@ next_price a b c up down u d e h = omega (arith, ints)
 next_constant : (a b c : ℤ) (up u : ℕ) → b ≡ a +ℤ pos up → c ≡ b +ℤ pos u → c ≡ a +ℤ pos (up + u)
 next_constant a b c up u e h = omega (arith, ints)
 
-pub relaxed_more : (p : ProblemData) (us : List ℕ) (at : Prices) (list next : PriceListData) (k : ℕ) → AreRelaxed p us at list k
-    → IsMoved p (priced_limit_at p k) (slice_index us k) (prices_in list) next → AreRelaxed p us at next (k + 1)
+pub relaxed_more : (p : ProblemData) (us : List ℕ) (at : Prices) (list next : WeightsData) (k : ℕ) → AreRelaxed p us at list k
+    → IsMoved p (priced_limit_at p k) (slice_index us k) (prices_of list) next → AreRelaxed p us at next (k + 1)
 relaxed_more p us at list next k r m = record {
   each = m.each;
-  price = λ i l. rw add-one (next_price (at.price i) (price_in list i) (price_in next i) _ _ _ _ (r.price i l) (m.price i l));
+  price = λ i l. rw add-one (next_price (at.price i) (weight_at list i) (weight_at next i) _ _ _ _ (r.price i l) (m.price i l));
   constant = rw add-one (next_constant at.constant list.constant next.constant _ _ r.constant m.constant);
 }
 
@@ -285,13 +273,6 @@ relaxed_sums_fit p node us w f s n l =
     s.constant (allowed_so_far p us (length us) f (omega arith)) (omega arith) (added_bounded p us n f) (taken_bounded p us n f l)
     (sum_high n (mark_at node) (weight_at w) (added_to p us) (taken_off p us) (λ i h. s.small i (omega arith)))
     (sum_low n (mark_at node) (weight_at w) (added_to p us) (taken_off p us) (λ i h. s.small i (omega arith)))
-
--- Lists of the same prices have the same sums.
-pub sums_same : (p : ProblemData) (node : List Mark) (a b : Prices) → a.constant ≡ b.constant → ((i : ℕ) → i < product_count p → a.price i ≡ b.price i)
-    → SumsFit p node b → SumsFit p node a
-sums_same p node a b e same fit n l =
-    let sums = int_sum_same n (λ i. most_of (mark_at node i) (a.price i)) (λ i. most_of (mark_at node i) (b.price i)) (λ i h. ap (most_of (mark_at node i)) (same i (omega arith))) in
-    rw (e, sums) (fit n l)
 
 -- ---- The limit at a place.
 

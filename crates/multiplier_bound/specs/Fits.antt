@@ -4,11 +4,11 @@ use Rattle.std.specs.List.{All, AllByRecursion}
 use Rattle.offer_model.specs.declared.node.Mark.{Mark}
 use Rattle.offer_model.specs.declared.products.Limit.{Limit}
 use Rattle.offer_model.specs.Problems.{ProblemData, product_count}
+use Rattle.offer_model.specs.Ranges.{number_bound}
 use Rattle.offer_model.specs.Validity.{IsProblem}
 use Rattle.offer_model.specs.Prices.{Prices}
 use Rattle.offer_model.specs.LeafBounds.{priced_limits, MultipliersFit, relaxed}
-use Rattle.linear_step.specs.Closings.{number_bound}
-use Rattle.multiplier_bound.specs.Pricing.{PriceListData, price_in, prices_in, SumsFit}
+use Rattle.linear_weights.specs.Weights.{WeightsData, weight_at, prices_of, SumsFit}
 
 -- The limits that have a multiplier, in file order, and for how many products there is room.
 pub record MultipliersData : Type 0 where
@@ -29,14 +29,14 @@ pub record AreFit (p : ProblemData) (us : List ℕ) : Type 0 where
   pub numbers : AreNumbers us
 
 -- The list has the prices that the multipliers make of these, and what any node adds to its constant fits.
-pub record IsRelaxed (p : ProblemData) (us : List ℕ) (at : Prices) (list : PriceListData) : Type 0 where
-  pub each : length list.each ≡ product_count p
-  pub price : (i : ℕ) → i < product_count p → price_in list i ≡ (relaxed p us at).price i
+pub record IsRelaxed (p : ProblemData) (us : List ℕ) (at : Prices) (list : WeightsData) : Type 0 where
+  pub each : length list.items ≡ product_count p
+  pub price : (i : ℕ) → i < product_count p → weight_at list i ≡ (relaxed p us at).price i
   pub constant : list.constant ≡ (relaxed p us at).constant
-  pub sums : (node : List Mark) → SumsFit p node (prices_in list)
+  pub sums : (node : List Mark) → SumsFit p node (prices_of list)
 
 -- The list has the prices that some multipliers make of these.
-pub record Relaxes (p : ProblemData) (at : Prices) (list : PriceListData) : Type 0 where
+pub record Relaxes (p : ProblemData) (at : Prices) (list : WeightsData) : Type 0 where
   pub us : List ℕ
   pub fit : AreFit p us
   pub relaxed : IsRelaxed p us at list

@@ -1,18 +1,18 @@
+//! Multipliers that are kept and improved from call to call.
 ghost use Rattle.std.specs.Prelude.{◌≡◌, ◌+◌, ◌<◌, ◌≤◌, ◌^◌, length, IfOk};
 ghost use Rattle.offer_model.specs.Problems.{product_count};
 ghost use Rattle.offer_model.specs.Validity.{IsProblem};
-ghost use Rattle.linear_step.specs.Weights.{AreWeights, prices_of};
+ghost use Rattle.linear_weights.specs.Weights.{AreWeights, prices_of};
 ghost use Rattle.multiplier_bound.specs.Fits.{HasLists, AreSmall, Relaxes};
 
 use crate::improving::improve_each;
 use crate::multipliers::{MOST_MULTIPLIER, Multipliers};
-use crate::prices::PriceList;
-use linear_step::Weights;
+use linear_weights::Weights;
 use offer_model::{NoMemory, Node, Problem, Wide};
 use std::alloc::Global;
 use std::marker::Model;
 
-/// How often each multiplier is improved for new weights.
+/// How often each multiplier is improved for new weights: the bound falls little after this many rounds.
 const ROUNDS: usize = 6;
 
 /// Multipliers of a problem's limits, which coordinate descent improves: each in turn becomes the middle of those at which the
@@ -23,7 +23,7 @@ pub struct Descent {
     multipliers: Multipliers,
     us: Vec<u128>,
     scaled: Wide,
-    moved: PriceList,
+    moved: Weights,
 }
 
 impl Model for Descent {
@@ -35,7 +35,7 @@ impl Model for Descent {
     ghost view = { λ s. s.multipliers };
 
     ghost invariant = { λ s. (length s.us.items ≡ length s.multipliers.priced) × AreSmall s.us.items
-        × (length s.us.items ≤ length s.scaled.items + s.scaled.spare) × (length s.moved.each ≡ s.multipliers.products) };
+        × (length s.us.items ≤ length s.scaled.items + s.scaled.spare) × (length s.moved.items ≡ s.multipliers.products) };
 }
 
 /// A twentieth of the number so many times, but no more than a multiplier may be.
@@ -66,20 +66,20 @@ fn descend(
     node: &Node,
     multipliers: &Multipliers,
     us: &mut Vec<u128>,
-    moved: &mut PriceList,
+    moved: &mut Weights,
 )
     requires valid { IsProblem p.now }
     requires lists { HasLists p.now multipliers.now }
     requires node { length node.now ≡ product_count p.now }
     requires us { length us.old.items ≡ length multipliers.now.priced }
     requires small { AreSmall us.old.items }
-    requires each { length moved.old.each ≡ product_count p.now }
+    requires each { length moved.old.items ≡ product_count p.now }
     ensures us { length us.new.items ≡ length us.old.items }
     ensures small { AreSmall us.new.items }
-    ensures each { length moved.new.each ≡ product_count p.now }
+    ensures each { length moved.new.items ≡ product_count p.now }
 {
     for _round in 0..ROUNDS {
-        improve_each(p, node, multipliers.priced(), us, &mut moved.each);
+        improve_each(p, node, multipliers.priced(), us, moved);
     }
 }
 
@@ -92,7 +92,7 @@ impl Descent {
         let us = vec![in alloc; 0u128; multipliers.priced().len()]?;
         let mut scaled = Wide::new(alloc);
         scaled.reserve(us.len())?;
-        let moved = PriceList::new(alloc, p.products().len())?;
+        let moved = Weights::new(alloc, p.products().len())?;
         Ok(Descent {
             multipliers,
             us,
@@ -116,11 +116,11 @@ impl Descent {
     }
 
     /// The list becomes the prices that the multipliers make of the weights, each a twentieth of it so many times.
-    pub fn relax(&mut self, p: &Problem, weights: &Weights, twentieths: u8, list: &mut PriceList)
+    pub fn relax(&mut self, p: &Problem, weights: &Weights, twentieths: u8, list: &mut Weights)
         requires valid { IsProblem p.now }
         requires lists { HasLists p.now self.old }
         requires weights { AreWeights p.now weights.now }
-        requires each { length list.old.each ≡ product_count p.now }
+        requires each { length list.old.items ≡ product_count p.now }
         ensures relaxed { Relaxes p.now (prices_of weights.now) list.new }
         ensures same { self.new ≡ self.old }
     {

@@ -1,3 +1,4 @@
+//! Coordinate descent: one multiplier after the other becomes the best while the others stay.
 ghost use Rattle.std.specs.Prelude.{◌≡◌, ◌<◌, ◌≤◌, ◌^◌, length};
 ghost use Rattle.offer_model.specs.Problems.{product_count};
 ghost use Rattle.offer_model.specs.Validity.{IsProblem, IsInRange, NamesExisting};
@@ -5,6 +6,7 @@ ghost use Rattle.offer_model.specs.LeafBounds.{priced_limits};
 ghost use Rattle.multiplier_bound.specs.Fits.{AreSmall};
 
 use crate::multipliers::{MOST_MULTIPLIER, allowance, units};
+use linear_weights::Weights;
 use offer_model::{Limit, Limits, Mark, Node, Problem};
 
 /// The price that decides whether a product is chosen: what is In always is, and what is Out never.
@@ -22,7 +24,7 @@ fn outweighs(price: i128, paid: i128, ties: bool) -> bool {
 }
 
 /// The units of a cap or a shelf that are used where each costs `u`: those of all products that outweigh what they pay.
-fn used_at(p: &Problem, node: &Node, limit: Limit, u: u128, ties: bool, each: &Vec<i128>) -> u128
+fn used_at(p: &Problem, node: &Node, limit: Limit, u: u128, ties: bool, each: &Weights) -> u128
     requires node { length node.now ≡ product_count p.now }
     requires u { u ≤ 2 ^ 100 }
     requires each { length each.now.items ≡ product_count p.now }
@@ -30,7 +32,7 @@ fn used_at(p: &Problem, node: &Node, limit: Limit, u: u128, ties: bool, each: &V
     let mut used = 0u128;
     for i in 0..each.len() {
         let units = units(p, limit, i);
-        if outweighs(pull(node.mark(i), each[i]), (u * units) as i128, ties) {
+        if outweighs(pull(node.mark(i), each.get(i)), (u * units) as i128, ties) {
             used += units;
         }
     }
@@ -38,18 +40,18 @@ fn used_at(p: &Problem, node: &Node, limit: Limit, u: u128, ties: bool, each: &V
 }
 
 /// The greatest price, but no more than a multiplier may be.
-fn greatest_price(each: &Vec<i128>) -> u128
+fn greatest_price(each: &Weights) -> u128
     ensures { result ≤ 2 ^ 100 }
 {
     let mut most = 0i128;
     for i in 0..each.len() {
-        most = most.max(each[i]);
+        most = most.max(each.get(i));
     }
     most.unsigned_abs().min(MOST_MULTIPLIER)
 }
 
 /// The least cost of a unit, up to `top`, at which no more units are used than a cap or a shelf allows.
-fn least_cost(p: &Problem, node: &Node, limit: Limit, top: u128, each: &Vec<i128>) -> u128
+fn least_cost(p: &Problem, node: &Node, limit: Limit, top: u128, each: &Weights) -> u128
     requires range { IsInRange limit }
     requires node { length node.now ≡ product_count p.now }
     requires top { top ≤ 2 ^ 100 }
@@ -77,7 +79,7 @@ fn greatest_cost(
     limit: Limit,
     least: u128,
     top: u128,
-    each: &Vec<i128>,
+    each: &Weights,
 ) -> u128
     requires range { IsInRange limit }
     requires node { length node.now ≡ product_count p.now }
@@ -101,7 +103,7 @@ fn greatest_cost(
 }
 
 /// The middle of the costs at which the bound is least.
-fn middle_cost(p: &Problem, node: &Node, limit: Limit, each: &Vec<i128>) -> u128
+fn middle_cost(p: &Problem, node: &Node, limit: Limit, each: &Weights) -> u128
     requires range { IsInRange limit }
     requires node { length node.now ≡ product_count p.now }
     requires each { length each.now.items ≡ product_count p.now }
@@ -129,7 +131,7 @@ fn shared(gain: i128, cost: i128) -> u128
 }
 
 /// A multiplier of the limit at which the bound is least, where the prices are those under all other multipliers.
-fn best_multiplier(p: &Problem, node: &Node, limit: Limit, each: &Vec<i128>) -> u128
+fn best_multiplier(p: &Problem, node: &Node, limit: Limit, each: &Weights) -> u128
     requires named { NamesExisting p.now limit }
     requires range { IsInRange limit }
     requires node { length node.now ≡ product_count p.now }
@@ -140,47 +142,56 @@ fn best_multiplier(p: &Problem, node: &Node, limit: Limit, each: &Vec<i128>) -> 
         Limit::Total(_) | Limit::Category(_, _) | Limit::Shelf(_) => {
             middle_cost(p, node, limit, each)
         }
-        Limit::Requires(a, b) => shared(pull(node.mark(a), each[a]), pull(node.mark(b), each[b])),
+        Limit::Requires(a, b) => shared(
+            pull(node.mark(a), each.get(a)),
+            pull(node.mark(b), each.get(b)),
+        ),
         Limit::Ladder(_) => 0,
     }
 }
 
 /// Undoes what a limit's multiplier makes of the prices.
-fn give_back(p: &Problem, limit: Limit, u: u128, each: &mut Vec<i128>)
+fn give_back(p: &Problem, limit: Limit, u: u128, each: &mut Weights)
     requires named { NamesExisting p.now limit }
     requires u { u ≤ 2 ^ 100 }
     requires each { length each.old.items ≡ product_count p.now }
     ensures { length each.new.items ≡ product_count p.now }
 {
     if let Limit::Requires(a, b) = limit {
-        each[a] = each[a].saturating_add_unsigned(u);
-        each[b] = each[b].saturating_sub_unsigned(u);
+        each.set(a, each.get(a).saturating_add_unsigned(u));
+        each.set(b, each.get(b).saturating_sub_unsigned(u));
         return;
     }
     for i in 0..each.len() {
-        each[i] = each[i].saturating_add_unsigned(u * units(p, limit, i));
+        each.set(
+            i,
+            each.get(i).saturating_add_unsigned(u * units(p, limit, i)),
+        );
     }
 }
 
 /// Does to the prices what a limit's multiplier makes of them.
-fn take_off(p: &Problem, limit: Limit, u: u128, each: &mut Vec<i128>)
+fn take_off(p: &Problem, limit: Limit, u: u128, each: &mut Weights)
     requires named { NamesExisting p.now limit }
     requires u { u ≤ 2 ^ 100 }
     requires each { length each.old.items ≡ product_count p.now }
     ensures { length each.new.items ≡ product_count p.now }
 {
     if let Limit::Requires(a, b) = limit {
-        each[a] = each[a].saturating_sub_unsigned(u);
-        each[b] = each[b].saturating_add_unsigned(u);
+        each.set(a, each.get(a).saturating_sub_unsigned(u));
+        each.set(b, each.get(b).saturating_add_unsigned(u));
         return;
     }
     for i in 0..each.len() {
-        each[i] = each[i].saturating_sub_unsigned(u * units(p, limit, i));
+        each.set(
+            i,
+            each.get(i).saturating_sub_unsigned(u * units(p, limit, i)),
+        );
     }
 }
 
 /// The limit's multiplier after it was improved. The prices move with it.
-fn improve_one(p: &Problem, node: &Node, limit: Limit, u: u128, each: &mut Vec<i128>) -> u128
+fn improve_one(p: &Problem, node: &Node, limit: Limit, u: u128, each: &mut Weights) -> u128
     requires named { NamesExisting p.now limit }
     requires range { IsInRange limit }
     requires node { length node.now ≡ product_count p.now }
@@ -201,7 +212,7 @@ pub(crate) fn improve_each(
     node: &Node,
     priced: &Limits,
     us: &mut Vec<u128>,
-    each: &mut Vec<i128>,
+    each: &mut Weights,
 )
     requires valid { IsProblem p.now }
     requires priced { priced.now.items ≡ priced_limits p.now }

@@ -4,8 +4,7 @@
 mod descent;
 mod improving;
 mod multipliers;
-mod prices;
 
 pub use descent::Descent;
+pub use linear_weights::Weights as PriceList;
 pub use multipliers::Multipliers;
-pub use prices::PriceList;

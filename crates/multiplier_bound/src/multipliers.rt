@@ -1,14 +1,15 @@
+//! Multipliers of limits, the prices that they make of weights, and their bound.
 ghost use Rattle.std.specs.Prelude.{◌≡◌, ℕ, ◌+◌, ◌*◌, ◌<◌, ◌≤◌, ◌^◌, ◌↔◌, ◌==◌, cond, false, length, pos, ◌+ℤ◌, ◌-ℤ◌, slice_index, slice_index_or, IfOk, IsTrue};
 ghost use Rattle.std.specs.List.{filter};
 ghost use Rattle.offer_model.specs.Problems.{product_count};
 ghost use Rattle.offer_model.specs.Validity.{IsInRange, NamesExisting, is_requires};
 ghost use Rattle.offer_model.specs.LeafBounds.{is_priced, priced_limits, taken_by, allowed_by, IsMultiplier, MultipliersFit, multipliers_bound};
-ghost use Rattle.linear_step.specs.Weights.{IsWithin, AreWeights, prices_of};
-ghost use Rattle.multiplier_bound.specs.Pricing.{price_in, prices_in, IsMoved, AreRelaxed};
+ghost use Rattle.linear_weights.specs.Weights.{IsWithin, AreWeights, weight_at, prices_of};
+ghost use Rattle.multiplier_bound.specs.Pricing.{IsMoved, AreRelaxed};
 ghost use Rattle.multiplier_bound.specs.Fits.{HasLists, AreNumbers, AreFit, IsRelaxed};
 
-use crate::prices::PriceList;
-use linear_step::Weights;
+use limit_rules::is_priced;
+use linear_weights::Weights;
 use offer_model::{Limit, Limits, NoMemory, Node, Problem, Wide};
 use std::alloc::Global;
 use std::marker::Model;
@@ -21,7 +22,7 @@ pub(crate) const MOST_MULTIPLIER: u128 = 1_267_650_600_228_229_401_496_703_205_3
 #[derive(Drop)]
 pub struct Multipliers {
     priced: Limits,
-    changed: PriceList,
+    changed: Weights,
 }
 
 impl Model for Multipliers {
@@ -30,7 +31,7 @@ impl Model for Multipliers {
 
     ghost Value = { MultipliersData };
 
-    ghost view = { λ s. record { priced = s.priced.items; products = length s.changed.each } };
+    ghost view = { λ s. record { priced = s.priced.items; products = length s.changed.items } };
 }
 
 /// The number at a place, counted from 0.
@@ -43,12 +44,7 @@ fn number_at(numbers: &Wide, i: usize) -> u128
     *numbers.get(i)
 }
 
-fn is_priced(limit: Limit) -> bool
-    ensures { result ≡ is_priced limit }
-{
-    !matches!(limit, Limit::Ladder(_))
-}
-
+/// The limits that have a multiplier, in file order.
 fn copy_priced(alloc: Global, limits: &Limits) -> Result<Limits, NoMemory>
     ensures { IfOk result (λ priced. priced.items ≡ filter is_priced limits.now.items) }
 {
@@ -120,91 +116,89 @@ fn less(price: i128, amount: u128) -> i128
 }
 
 /// Takes `u` off each product's price for each unit that a cap or a shelf counts of it.
-fn take_units(p: &Problem, limit: Limit, u: u128, each: &mut Vec<i128>)
+fn take_units(p: &Problem, limit: Limit, u: u128, each: &mut Weights)
     requires limit { is_requires limit ≡ false }
     requires u { u ≤ 2 ^ 100 }
     requires each { length each.old.items ≡ product_count p.now }
     requires small { (i : ℕ) → i < product_count p.now
-        → IsWithin (2 ^ 122) (slice_index_or each.old.items i (pos 0)) }
+        → IsWithin (2 ^ 122) (weight_at each.old i) }
+    ensures constant { each.new.constant ≡ each.old.constant }
     ensures each { length each.new.items ≡ product_count p.now }
-    ensures price { (i : ℕ) → i < product_count p.now → slice_index_or each.new.items i (pos 0)
-        ≡ slice_index_or each.old.items i (pos 0) -ℤ pos (taken_by p.now limit u i) }
+    ensures price { (i : ℕ) → i < product_count p.now → weight_at each.new i
+        ≡ weight_at each.old i -ℤ pos (taken_by p.now limit u i) }
 {
     for i in 0..each.len() {
-        each[i] = less(each[i], u * units(p, limit, i));
+        each.set(i, less(each.get(i), u * units(p, limit, i)));
     }
 }
 
 /// Takes `u` off the price of product `a`.
-fn lower(a: usize, u: u128, each: &mut Vec<i128>)
+fn lower(a: usize, u: u128, each: &mut Weights)
     requires a { a < length each.old.items }
     requires u { u ≤ 2 ^ 108 }
-    requires small { IsWithin (2 ^ 122) (slice_index_or each.old.items a (pos 0)) }
+    requires small { IsWithin (2 ^ 122) (weight_at each.old a) }
+    ensures constant { each.new.constant ≡ each.old.constant }
     ensures each { length each.new.items ≡ length each.old.items }
-    ensures price { (i : ℕ) → i < length each.old.items → slice_index_or each.new.items i (pos 0)
-        ≡ slice_index_or each.old.items i (pos 0) -ℤ pos (cond (i == a) u 0) }
+    ensures price { (i : ℕ) → i < length each.old.items → weight_at each.new i
+        ≡ weight_at each.old i -ℤ pos (cond (i == a) u 0) }
 {
-    each[a] = less(each[a], u);
+    each.set(a, less(each.get(a), u));
 }
 
 /// Adds `u` to the price of product `b`.
-fn raise(b: usize, u: u128, each: &mut Vec<i128>)
+fn raise(b: usize, u: u128, each: &mut Weights)
     requires b { b < length each.old.items }
     requires u { u ≤ 2 ^ 108 }
-    requires small { IsWithin (2 ^ 123) (slice_index_or each.old.items b (pos 0)) }
+    requires small { IsWithin (2 ^ 123) (weight_at each.old b) }
+    ensures constant { each.new.constant ≡ each.old.constant }
     ensures each { length each.new.items ≡ length each.old.items }
-    ensures price { (i : ℕ) → i < length each.old.items → slice_index_or each.new.items i (pos 0)
-        ≡ slice_index_or each.old.items i (pos 0) +ℤ pos (cond (i == b) u 0) }
+    ensures price { (i : ℕ) → i < length each.old.items → weight_at each.new i
+        ≡ weight_at each.old i +ℤ pos (cond (i == b) u 0) }
 {
-    each[b] = more(each[b], u);
+    each.set(b, more(each.get(b), u));
 }
 
 /// Takes `u` off the price of product `a` and adds it to that of product `b`.
-fn shift(a: usize, b: usize, u: u128, each: &mut Vec<i128>)
+fn shift(a: usize, b: usize, u: u128, each: &mut Weights)
     requires a { a < length each.old.items }
     requires b { b < length each.old.items }
     requires u { u ≤ 2 ^ 108 }
     requires small { (i : ℕ) → i < length each.old.items
-        → IsWithin (2 ^ 122) (slice_index_or each.old.items i (pos 0)) }
+        → IsWithin (2 ^ 122) (weight_at each.old i) }
+    ensures constant { each.new.constant ≡ each.old.constant }
     ensures each { length each.new.items ≡ length each.old.items }
-    ensures price { (i : ℕ) → i < length each.old.items → slice_index_or each.new.items i (pos 0)
-        ≡ (slice_index_or each.old.items i (pos 0) +ℤ pos (cond (i == b) u 0)) -ℤ pos (cond (i == a) u 0) }
+    ensures price { (i : ℕ) → i < length each.old.items → weight_at each.new i
+        ≡ (weight_at each.old i +ℤ pos (cond (i == b) u 0)) -ℤ pos (cond (i == a) u 0) }
 {
     lower(a, u, each);
     raise(b, u, each);
 }
 
 /// Moves the prices and the constant by a limit's multiplier.
-fn move_by(p: &Problem, limit: Limit, u: u128, list: &mut PriceList)
+fn move_by(p: &Problem, limit: Limit, u: u128, list: &mut Weights)
     requires named { NamesExisting p.now limit }
     requires range { IsInRange limit }
     requires fits { IsMultiplier limit u }
     requires number { u ≤ 2 ^ 108 }
-    requires each { length list.old.each ≡ product_count p.now }
-    requires small { (i : ℕ) → i < product_count p.now → IsWithin (2 ^ 122) (price_in list.old i) }
+    requires each { length list.old.items ≡ product_count p.now }
+    requires small { (i : ℕ) → i < product_count p.now → IsWithin (2 ^ 122) (weight_at list.old i) }
     requires constant { IsWithin (2 ^ 122) list.old.constant }
-    ensures { IsMoved p.now limit u (prices_in list.old) list.new }
+    ensures { IsMoved p.now limit u (prices_of list.old) list.new }
 {
     if let Limit::Requires(a, b) = limit {
-        shift(a, b, u, &mut list.each);
+        shift(a, b, u, list);
     } else {
-        take_units(p, limit, u, &mut list.each);
-        list.constant = more(list.constant, u * allowance(limit));
+        take_units(p, limit, u, list);
+        list.set_constant(more(list.constant(), u * allowance(limit)));
     }
 }
 
 /// Becomes the weights as all multipliers move them.
-fn move_by_all(
-    p: &Problem,
-    priced: &Limits,
-    numbers: &Wide,
-    weights: &Weights,
-    list: &mut PriceList,
-)
+fn move_by_all(p: &Problem, priced: &Limits, numbers: &Wide, weights: &Weights, list: &mut Weights)
     requires priced { priced.now.items ≡ priced_limits p.now }
     requires fit { AreFit p.now numbers.now.items }
     requires weights { AreWeights p.now weights.now }
-    requires each { length list.old.each ≡ product_count p.now }
+    requires each { length list.old.items ≡ product_count p.now }
     ensures { AreRelaxed p.now numbers.now.items (prices_of weights.now) list.new (length numbers.now.items) }
 {
     list.copy_from(weights);
@@ -219,7 +213,7 @@ impl Multipliers {
         ensures { IfOk result (λ s. HasLists p.now s) }
     {
         let priced = copy_priced(alloc, p.limits())?;
-        let changed = PriceList::new(alloc, p.products().len())?;
+        let changed = Weights::new(alloc, p.products().len())?;
         Ok(Multipliers { priced, changed })
     }
 
@@ -247,11 +241,11 @@ impl Multipliers {
     }
 
     /// The list becomes the prices that these multipliers make of the weights.
-    pub fn relax(&self, p: &Problem, weights: &Weights, numbers: &Wide, list: &mut PriceList)
+    pub fn relax(&self, p: &Problem, weights: &Weights, numbers: &Wide, list: &mut Weights)
         requires lists { HasLists p.now self.now }
         requires fit { AreFit p.now numbers.now.items }
         requires weights { AreWeights p.now weights.now }
-        requires each { length list.old.each ≡ product_count p.now }
+        requires each { length list.old.items ≡ product_count p.now }
         ensures { IsRelaxed p.now numbers.now.items (prices_of weights.now) list.new }
     {
         move_by_all(p, &self.priced, numbers, weights, list);

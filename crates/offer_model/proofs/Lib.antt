@@ -1,8 +1,13 @@
 pub mod DigitLemmas
 pub mod WorkedValueLemmas
+pub mod ListLemmas
 pub mod SumLemmas
+pub mod NodeLemmas
+pub mod EarningLemmas
 pub mod TieLemmas
+pub mod LimitLemmas
 pub mod CompletionLemmas
+pub mod FullNodeLemmas
 pub mod MultiplierLemmas
 pub mod WorthLemmas
 pub mod ShelfLemmas

@@ -15,22 +15,15 @@ use Rattle.offer_model.specs.Assortments.{offers}
 use Rattle.offer_model.specs.Prices.{int_sum_below, Prices, worth_of}
 use Rattle.offer_model.specs.Problems.{ProblemData, product_count, product_at}
 use Rattle.offer_model.specs.Limits.{IsFeasible, Meets}
-use Rattle.offer_model.specs.Nodes.{Agrees, Completes, settled_node, settled_mark}
+use Rattle.offer_model.specs.Nodes.{Agrees, Completes, settled_node, settled_mark, is_open}
 use Rattle.offer_model.specs.LeafBounds.{potentials_bound, PotentialsFit, IsUsable, is_limited, ladder_of, ladder_top, ladder_tops, most_beside}
 use Rattle.offer_model.proofs.CompletionLemmas.{Completes-agrees, settled_completes}
-use Rattle.offer_model.proofs.SumLemmas.{sum_mono}
+use Rattle.offer_model.proofs.SumLemmas.{sum_mono, int_sum_below-add, int_sum_below-zeros}
 
 -- ---- Sums over the products that pass a test.
 
 abbrev pub sum_where : ℕ → (ℕ → Bool) → (ℕ → ℤ) → ℤ
 sum_where n s f = int_sum_below n (λ i. cond (s i) (f i) (pos 0))
-
-pub sum_adds : (n : ℕ) (f g h : ℕ → ℤ) → ((i : ℕ) → i < n → f i ≡ g i +ℤ h i) → int_sum_below n f ≡ int_sum_below n g +ℤ int_sum_below n h
-sum_adds zero f g h e = omega (arith, ints)
-sum_adds (suc n) f g h e =
-    let before = sum_adds n f g h (λ i l. e i (omega arith)) in
-    let here = e n (omega arith) in
-    omega (arith, ints)
 
 pub sum_none : (n : ℕ) (s : ℕ → Bool) (f : ℕ → ℤ) → ((i : ℕ) → i < n → s i ≡ true → ⊥) → sum_where n s f ≡ pos 0
 sum_none zero s f h = refl
@@ -97,10 +90,6 @@ pub whole : (b : Bool) (g : ℕ) (z : ℤ) → cond b z (pos 0) ≡ cond (b && l
 whole true g z = grind (arith, nat_tests, ints)
 whole false g z = refl
 
-pub sum_zeros : (n : ℕ) → int_sum_below n (λ i. pos 0) ≡ pos 0
-sum_zeros zero = refl
-sum_zeros (suc n) = let k = sum_zeros n in omega (arith, ints)
-
 -- ---- One ladder: members of a set that may stand together.
 
 module _ (n : ℕ) (s : ℕ → Bool) (price : ℕ → ℤ) (grade cost top : ℕ → ℕ)
@@ -137,7 +126,7 @@ module _ (n : ℕ) (s : ℕ → Bool) (price : ℕ → ℤ) (grade cost top : �
     with_one m i l t r =
         let si : s i ≡ true = and_left (s i) (eqb (grade i) m) t in
         let gi : grade i ≡ m = eqb-true (grade i) m (and_right (s i) (eqb (grade i) m) t) in
-        let parts = sum_adds n (λ j. cond (from m j) (price j) (pos 0)) (λ j. cond (from (suc m) j) (price j) (pos 0)) (λ j. cond (at m j) (price j) (pos 0)) (λ j lj. split (s j) m (grade j) (price j)) in
+        let parts = int_sum_below-add n (λ j. cond (from m j) (price j) (pos 0)) (λ j. cond (from (suc m) j) (price j) (pos 0)) (λ j. cond (at m j) (price j) (pos 0)) (λ j lj. split (s j) m (grade j) (price j)) in
         let one = sum_single n (at m) price i l t (λ j lj tj. only m i j l lj si gi tj) in
         let own = alone i l si in
         inr (
@@ -154,7 +143,7 @@ module _ (n : ℕ) (s : ℕ → Bool) (price : ℕ → ℤ) (grade cost top : �
     without_one : (m : ℕ) → ((i : ℕ) → i < n → at m i ≡ true → ⊥) → Rises (suc m) → Rises m
     unfolding at from Rises
     without_one m none r =
-        let parts = sum_adds n (λ j. cond (from m j) (price j) (pos 0)) (λ j. cond (from (suc m) j) (price j) (pos 0)) (λ j. cond (at m j) (price j) (pos 0)) (λ j lj. split (s j) m (grade j) (price j)) in
+        let parts = int_sum_below-add n (λ j. cond (from m j) (price j) (pos 0)) (λ j. cond (from (suc m) j) (price j) (pos 0)) (λ j. cond (at m j) (price j) (pos 0)) (λ j lj. split (s j) m (grade j) (price j)) in
         let zero_sum = sum_none n (at m) price none in
         ⊎_elim (λ k. inl (omega (arith, ints))) (λ k. inr (k.0, k.1, k.2, omega (arith, k.3), let last = k.4 in omega (arith, ints))) r
 
@@ -171,8 +160,8 @@ module _ (n : ℕ) (s : ℕ → Bool) (price : ℕ → ℤ) (grade cost top : �
     unfolding from Rises
     brings most h =
         let b = bounded n grade in
-        let all = sum_adds n (λ i. cond (s i) (price i) (pos 0)) (λ i. cond (from 0 i) (price i) (pos 0)) (λ i. pos 0) (λ i l. whole (s i) (grade i) (price i)) in
-        let zeros = sum_zeros n in
+        let all = int_sum_below-add n (λ i. cond (s i) (price i) (pos 0)) (λ i. cond (from 0 i) (price i) (pos 0)) (λ i. pos 0) (λ i l. whole (s i) (grade i) (price i)) in
+        let zeros = int_sum_below-zeros n (λ i. pos 0) (λ i l. refl) in
         ⊎_elim (λ k. omega (arith, ints))
         (λ k. let le = h k.0 k.1 k.2 in let last = k.4 in omega (arith, ints))
         (rises b.0 0 (λ i l. let k = b.1 i l in omega arith))
@@ -187,11 +176,6 @@ pub two : (b e : Bool) (z : ℤ) → cond b z (pos 0) ≡ cond (b && e) z (pos 0
 two false e z = refl
 two true true z = omega (arith, ints)
 two true false z = omega (arith, ints)
-
-abbrev pub is_open : Mark → Bool
-is_open In = false
-is_open Out = false
-is_open Open = true
 
 pub is_open-true : (m : Mark) → is_open m ≡ true → m ≡ Open
 is_open-true In h = cc
@@ -252,7 +236,7 @@ module _ (p : ProblemData) (node : List Mark) (us : List ℕ) (price : ℕ → �
       (λ i h t. sym (eqb-true l (ladder_of p i) (and_right (s i) (eqb l (ladder_of p i)) t))) in
       let rest = all_ladders limits (λ i. s i && not (eqb l (ladder_of p i))) m.1 (λ i h t. ch i h (and_left (s i) (not (eqb l (ladder_of p i))) t))
       (λ i h t. later (eqb l (ladder_of p i)) (is_limited limits (ladder_of p i)) (and_right (s i) (not (eqb l (ladder_of p i))) t) (li i h (and_left (s i) (not (eqb l (ladder_of p i))) t))) in
-      let parts = sum_adds (product_count p) (λ i. cond (s i) (price i) (pos 0)) (λ i. cond (s i && eqb l (ladder_of p i)) (price i) (pos 0)) (λ i. cond (s i && not (eqb l (ladder_of p i))) (price i) (pos 0))
+      let parts = int_sum_below-add (product_count p) (λ i. cond (s i) (price i) (pos 0)) (λ i. cond (s i && eqb l (ladder_of p i)) (price i) (pos 0)) (λ i. cond (s i && not (eqb l (ladder_of p i))) (price i) (pos 0))
       (λ i h. two (s i) (eqb l (ladder_of p i)) (price i)) in
       omega (arith, ints)
   all_ladders (Total cap ∷ limits) s m ch li = all_ladders limits s m.1 ch li
@@ -266,7 +250,7 @@ potentials_hold p node us b y agree f k =
     let c = settled_completes p node y f agree in
     let apart = sum_mono (product_count p) (λ i. cond (offers y i) (b.price i) (pos 0)) (λ i. most_beside (settled_mark p node i) (is_limited p.limits (ladder_of p i)) (b.price i) +ℤ cond (chosen p node y i) (b.price i) (pos 0))
     (λ i h. apart_term (settled_mark p node i) (offers y i) (is_limited p.limits (ladder_of p i)) (b.price i) (Completes-agrees (settled_node p node) y c i)) in
-    let parts = sum_adds (product_count p) (λ i. most_beside (settled_mark p node i) (is_limited p.limits (ladder_of p i)) (b.price i) +ℤ cond (chosen p node y i) (b.price i) (pos 0))
+    let parts = int_sum_below-add (product_count p) (λ i. most_beside (settled_mark p node i) (is_limited p.limits (ladder_of p i)) (b.price i) +ℤ cond (chosen p node y i) (b.price i) (pos 0))
     (λ i. most_beside (settled_mark p node i) (is_limited p.limits (ladder_of p i)) (b.price i)) (λ i. cond (chosen p node y i) (b.price i) (pos 0)) (λ i h. refl) in
     let most = all_ladders p node us b.price y c k p.limits (chosen p node y) (recursion_from_All (Meets p y) p.limits f.1) (λ i h t. t)
     (λ i h t. and_right (is_open (settled_mark p node i)) (is_limited p.limits (ladder_of p i)) (and_right (offers y i) (is_open (settled_mark p node i) && is_limited p.limits (ladder_of p i)) t)) in

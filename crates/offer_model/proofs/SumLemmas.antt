@@ -1,13 +1,101 @@
--- Sums over products.
-use Rattle.std.proofs.Common.{◌≡◌, ℕ, Bool, true, false, cond, refl, arith, suc, zero, ◌<◌, ◌≤◌, ◌*◌, ◌+◌}
-use Rattle.std.specs.Prelude.{pos, ◌+ℤ◌, ◌-ℤ◌, ◌≤ℤ◌}
+-- Sums over products: of equal terms, of bounded terms, of what is offered.
+use Rattle.std.proofs.Common.{◌≡◌, ◌≢◌, ℕ, Bool, true, false, cond, List, length, set, get_or-set_same, get_or-set_other, refl, arith, suc, zero, ◌<◌, ◌≤◌, ◌*◌, ◌+◌, inl, inr}
+use Rattle.std.specs.Prelude.{pos, ◌+ℤ◌, ◌-ℤ◌, ◌≤ℤ◌, ◌⊎◌}
+use Rattle.std.proofs.lemmas.Bool.{cases_eq}
 use Rattle.std.proofs.lemmas.Int.{ints}
 use Rattle.std.proofs.lemmas.Bool.Decides.{nat_tests}
 use Rattle.std.proofs.Common.{eqb}
 use lib.IntN.{ℤ}
-use Rattle.offer_model.specs.Assortments.{sum_below}
+use Rattle.offer_model.specs.Assortments.{offers, sum_below}
 use Rattle.offer_model.specs.Prices.{int_sum_below}
 
+-- ---- Equal terms, and none.
+
+-- Sums of equal terms are equal.
+pub sum_below-same : (n : ℕ) (f g : ℕ → ℕ) → ((i : ℕ) → i < n → f i ≡ g i) → sum_below n f ≡ sum_below n g
+sum_below-same zero f g h = refl
+sum_below-same (suc n) f g h =
+    let before = sum_below-same n f g (λ i l. h i (omega arith)) in
+    let here = h n (omega arith) in
+    omega (arith, before, here)
+
+pub int_sum_below-same : (n : ℕ) (f g : ℕ → ℤ) → ((i : ℕ) → i < n → f i ≡ g i) → int_sum_below n f ≡ int_sum_below n g
+int_sum_below-same zero f g same = refl
+int_sum_below-same (suc n) f g same = two (int_sum_below-same n f g (λ i l. same i (omega arith))) (same n (omega arith))
+  where
+    two : {a b c d : ℤ} → a ≡ b → c ≡ d → a +ℤ c ≡ b +ℤ d
+    two e h = cc
+
+-- A sum of zeros is 0.
+pub sum_below-zeros : (n : ℕ) (f : ℕ → ℕ) → ((i : ℕ) → i < n → f i ≡ 0) → sum_below n f ≡ 0
+sum_below-zeros zero f h = refl
+sum_below-zeros (suc n) f h =
+    let before = sum_below-zeros n f (λ i l. h i (omega arith)) in
+    let here = h n (omega arith) in
+    omega (arith, before, here)
+
+pub int_sum_below-zeros : (n : ℕ) (f : ℕ → ℤ) → ((i : ℕ) → i < n → f i ≡ pos 0) → int_sum_below n f ≡ pos 0
+int_sum_below-zeros zero f h = refl
+int_sum_below-zeros (suc n) f h =
+    let before = int_sum_below-zeros n f (λ i l. h i (omega arith)) in
+    let here = h n (omega arith) in
+    omega (arith, ints, before, here)
+
+-- Where each term is the sum of two, so is the sum.
+pub int_sum_below-add : (n : ℕ) (f g h : ℕ → ℤ) → ((i : ℕ) → i < n → f i ≡ g i +ℤ h i) → int_sum_below n f ≡ int_sum_below n g +ℤ int_sum_below n h
+int_sum_below-add zero f g h e = omega (arith, ints)
+int_sum_below-add (suc n) f g h e =
+    let before = int_sum_below-add n f g h (λ i l. e i (omega arith)) in
+    let here = e n (omega arith) in
+    omega (arith, ints)
+
+-- ---- Bounded terms.
+
+-- A sum of n terms, each at most c, is at most n times c.
+pub sum_most : (n c : ℕ) (f : ℕ → ℕ) → ((i : ℕ) → i < n → f i ≤ c) → sum_below n f ≤ n * c
+sum_most zero c f h = omega arith
+sum_most (suc n) c f h =
+    let before = sum_most n c f (λ i l. h i (omega arith)) in
+    let here = h n (omega arith) in
+    omega arith
+
+-- A sum over more products is no less.
+pub sum_below_le : (m n : ℕ) (f : ℕ → ℕ) → m ≤ n → sum_below m f ≤ sum_below n f
+sum_below_le m zero f l = let e : m ≡ 0 = omega arith in rw e (omega arith)
+sum_below_le m (suc n) f l = by_place (λ h. sum_below_le m n f h) (cases_eq m (suc n))
+  where
+    by_place : (m ≤ n → sum_below m f ≤ sum_below n f) → ((m ≡ suc n) ⊎ (m ≢ suc n)) → sum_below m f ≤ sum_below (suc n) f
+    by_place before (inl e) = rw e (omega arith)
+    by_place before (inr ne) = let b = before (omega arith) in omega arith
+
+-- ---- One more product is offered.
+
+-- It changes no sum over products before it.
+pub sum_below-set_later : (n : ℕ) (x : List Bool) (i : ℕ) (f : ℕ → ℕ) → n ≤ i
+    → sum_below n (λ j. cond (offers (set x i true) j) (f j) 0) ≡ sum_below n (λ j. cond (offers x j) (f j) 0)
+sum_below-set_later zero x i f l = refl
+sum_below-set_later (suc n) x i f l =
+    let before = sum_below-set_later n x i f (omega arith) in
+    let ne : n ≢ i = omega arith in
+    rw (before, get_or-set_other x i n true false ne) refl
+
+-- To a sum over products among which it is, it adds its own term.
+pub sum_below-set : (n : ℕ) (x : List Bool) (i : ℕ) (f : ℕ → ℕ) → i < n → i < length x → offers x i ≡ false
+    → sum_below n (λ j. cond (offers (set x i true) j) (f j) 0) ≡ sum_below n (λ j. cond (offers x j) (f j) 0) + f i
+sum_below-set zero x i f l m o = absurd (omega arith)
+sum_below-set (suc n) x i f l m o = by_place (λ l. sum_below-set n x i f l m o) (cases_eq n i)
+  where
+    by_place : (i < n → sum_below n (λ j. cond (offers (set x i true) j) (f j) 0) ≡ sum_below n (λ j. cond (offers x j) (f j) 0) + f i)
+        → ((n ≡ i) ⊎ (n ≢ i))
+        → sum_below (suc n) (λ j. cond (offers (set x i true) j) (f j) 0) ≡ sum_below (suc n) (λ j. cond (offers x j) (f j) 0) + f i
+    by_place before (inl e) = rw (e, sum_below-set_later i x i f (omega arith), get_or-set_same x i true false m, o) (omega arith)
+    by_place before (inr ne) =
+        let b = before (omega arith) in
+        rw (get_or-set_other x i n true false ne) (omega arith)
+
+-- ---- Terms in order.
+
+-- Where each term is no greater, the sum is no greater.
 pub sum_mono : (n : ℕ) (f g : ℕ → ℤ) → ((i : ℕ) → i < n → f i ≤ℤ g i) → int_sum_below n f ≤ℤ int_sum_below n g
 sum_mono zero f g h = omega (arith, ints)
 sum_mono (suc n) f g h =

@@ -23,6 +23,17 @@ gain_of p g x = sum_offered p x (λ i. margin_of p i * attraction_of g i)
 abbrev pub weight_of : ProblemData → SegmentData → List Bool → ℕ
 weight_of p g x = g.none + sum_below (product_count p) (λ i. cond (offers x i) (attraction_of g i) (shadow_of g i))
 
+-- Gain and weight in the only segment.
+abbrev pub own_gain : ProblemData → List Bool → ℕ
+own_gain p x = gain_of p (first_segment p) x
+
+abbrev pub own_weight : ProblemData → List Bool → ℕ
+own_weight p x = weight_of p (first_segment p) x
+
+-- What the assortment earns: gain over weight.
+abbrev pub revenue_of : ProblemData → List Bool → Fraction
+revenue_of p x = record { num = own_gain p x; den = own_weight p x }
+
 -- The chance that a customer of the segment buys product i.
 abbrev pub chance_of : ProblemData → SegmentData → List Bool → ℕ → Fraction
 chance_of p g x i = record { num = cond (offers x i) (attraction_of g i) 0; den = weight_of p g x }

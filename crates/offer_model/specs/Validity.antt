@@ -5,33 +5,32 @@ use Rattle.offer_model.specs.declared.products.ModelName.TheVariants.{Logit, Att
 use Rattle.offer_model.specs.declared.products.Product.{Product}
 use Rattle.offer_model.specs.declared.products.Limit.{Limit}
 use Rattle.offer_model.specs.declared.products.Limit.TheVariants.{Total, Category, Requires, Shelf, Ladder}
-use Rattle.offer_model.specs.declared.ranges.TheConstants.{MOST_PRODUCTS, MOST_AMOUNT, MOST_COUNT, MOST_SEGMENTS, MOST_LIMITS, MOST_REQUIRES}
 use Rattle.offer_model.specs.Problems.{SegmentData, ProblemData, product_count, product_at, attraction_of, shadow_of, first_segment}
 
--- a number from 1 to the greatest amount
+-- A number from 1 to a thousand millions.
 abbrev pub IsPositiveAmount : ℕ → Type 0
-IsPositiveAmount n = (1 ≤ n) × (n ≤ MOST_AMOUNT)
+IsPositiveAmount n = (1 ≤ n) × (n ≤ 1000000000)
 
 pub record IsProduct (a : Product) : Type 0 where
-  pub margin : a.margin ≤ MOST_AMOUNT
-  pub space : a.space ≤ MOST_COUNT
-  pub price : a.price ≤ MOST_AMOUNT
-  pub grade : a.grade ≤ MOST_COUNT
+  pub margin : a.margin ≤ 1000000000
+  pub space : a.space ≤ 1000
+  pub price : a.price ≤ 1000000000
+  pub grade : a.grade ≤ 1000
 
 -- no shadow is above its attraction
 pub record IsSegment (g : SegmentData) : Type 0 where
   pub size : IsPositiveAmount g.size
   pub none : IsPositiveAmount g.none
   pub each : length g.shadow ≡ length g.attract
-  pub attraction : (i : ℕ) → attraction_of g i ≤ MOST_AMOUNT
+  pub attraction : (i : ℕ) → attraction_of g i ≤ 1000000000
   pub shadow : (i : ℕ) → shadow_of g i ≤ attraction_of g i
 
 -- the number of a limit is in its range
 abbrev pub IsInRange : Limit → Type 0
-IsInRange (Total cap) = cap ≤ MOST_COUNT
-IsInRange (Category c cap) = cap ≤ MOST_COUNT
+IsInRange (Total cap) = cap ≤ 1000
+IsInRange (Category c cap) = cap ≤ 1000
 IsInRange (Requires a b) = Unit {0}
-IsInRange (Shelf space) = space ≤ MOST_COUNT
+IsInRange (Shelf space) = space ≤ 1000
 IsInRange (Ladder l) = Unit {0}
 
 -- the products, the category or the ladder that a limit names are there
@@ -97,8 +96,8 @@ IsPlainModel Chain = ⊥
 -- The limits may stand in the problem: not too many, in range, of products, categories and ladders that it has, and none
 -- repeats an earlier one.
 pub record HasLimits (p : ProblemData) : Type 0 where
-  pub few : length p.limits ≤ MOST_LIMITS
-  pub few_requires : count_by is_requires p.limits ≤ MOST_REQUIRES
+  pub few : length p.limits ≤ 1024
+  pub few_requires : count_by is_requires p.limits ≤ 512
   pub in_range : All IsInRange p.limits
   pub named : All (NamesExisting p) p.limits
   pub once : AllPairs (λ a b. Repeats a b → ⊥) p.limits
@@ -107,12 +106,12 @@ pub record HasLimits (p : ProblemData) : Type 0 where
 pub record IsProblem (p : ProblemData) : Type 0 where
   pub model : p.model ≢ Chain
   pub unit : IsPositiveAmount p.unit
-  pub few : product_count p ≤ MOST_PRODUCTS
+  pub few : product_count p ≤ 256
   pub products : All IsProduct p.products
-  pub few_segments : length p.segments ≤ MOST_SEGMENTS
+  pub few_segments : length p.segments ≤ 32
   pub segments : All IsSegment p.segments
   pub each : All (λ g. length g.attract ≡ product_count p) p.segments
-  pub sizes : sum_by (λ g. g.size * p.unit) p.segments ≤ MOST_AMOUNT
+  pub sizes : sum_by (λ g. g.size * p.unit) p.segments ≤ 1000000000
   pub limits : HasLimits p
   pub single : IsRatioModel p.model → (p.unit ≡ 1) × (length p.segments ≡ 1) × ((first_segment p).size ≡ 1)
   pub plain : IsPlainModel p.model → All (λ g. (i : ℕ) → shadow_of g i ≡ 0) p.segments

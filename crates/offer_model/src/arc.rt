@@ -1,3 +1,4 @@
+//! Arcs of a Markov chain.
 /// The customers at product `from` who don't find it and move on to product `to`.
 #[derive(Clone, Copy, Debug, PartialEq, Eq)]
 pub struct Arc {

@@ -1,3 +1,4 @@
+//! Assortments, and the rule of ties between them.
 ghost use Rattle.std.specs.Prelude.{◌≡◌, ◌<◌, ◌↔◌, false, replicate, length, slice_set, IfOk, IsTrue};
 ghost use Rattle.offer_model.specs.Assortments.{offers, IsBefore};
 

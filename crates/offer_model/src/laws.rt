@@ -1,4 +1,11 @@
+//! What holds of the definitions, as clauses.
+ghost use Rattle.std.specs.Prelude.{◌≡◌};
 ghost use Rattle.offer_model.specs.WorkedValues.{RevenueIsWorked, OrderIsWorked, LimitsAreWorked, BestIsWorked};
+
+use crate::numerals::MOST_DIGITS;
+use crate::ranges::{
+    MOST_AMOUNT, MOST_COUNT, MOST_LIMITS, MOST_PRODUCTS, MOST_REQUIRES, MOST_SEGMENTS,
+};
 
 #[tactic(auto, using(crate::proofs::WorkedValueLemmas::revenue_worked, crate::proofs::WorkedValueLemmas::order_worked, crate::proofs::WorkedValueLemmas::limits_worked, crate::proofs::WorkedValueLemmas::best_worked))]
 /// The definitions have the values that were worked by hand.
@@ -7,4 +14,15 @@ pub fn worked_values_hold()
     ensures order { OrderIsWorked }
     ensures limits { LimitsAreWorked }
     ensures best { BestIsWorked }
+{}
+
+/// The numbers that the code compares with are those that the definitions state.
+pub fn ranges_are_stated()
+    ensures products { MOST_PRODUCTS ≡ 256 }
+    ensures segments { MOST_SEGMENTS ≡ 32 }
+    ensures limits { MOST_LIMITS ≡ 1024 }
+    ensures requirements { MOST_REQUIRES ≡ 512 }
+    ensures amount { MOST_AMOUNT ≡ 1000000000 }
+    ensures count { MOST_COUNT ≡ 1000 }
+    ensures digits { MOST_DIGITS ≡ 20 }
 {}

@@ -3,21 +3,23 @@
 
 mod arc;
 mod assortment;
+mod earnings;
 mod laws;
 mod lists;
 mod memory;
 mod node;
 mod numerals;
+mod problem_copy;
 mod problems;
 mod products;
 mod ranges;
-mod revenue;
 mod segments;
 mod texts;
 
 pub use arc::Arc;
 pub use assortment::Assortment;
-pub use laws::worked_values_hold;
+pub use earnings::{compare_fraction, gain, product_gain, revenue, value_order, weight};
+pub use laws::{ranges_are_stated, worked_values_hold};
 pub use lists::{Bytes, Items, Limits, Numbers, Products, Segments, Wide};
 pub use memory::NoMemory;
 pub use node::{Mark, Node};
@@ -27,6 +29,5 @@ pub use products::{Fraction, Limit, ModelName, Product};
 pub use ranges::{
     MOST_AMOUNT, MOST_COUNT, MOST_LIMITS, MOST_PRODUCTS, MOST_REQUIRES, MOST_SEGMENTS,
 };
-pub use revenue::{compare_fraction, gain, value_order, weight};
 pub use segments::Segment;
 pub use texts::Texts;

@@ -1,4 +1,5 @@
-ghost use Rattle.std.specs.Prelude.{◌≡◌, ◌+◌, ◌<◌, ◌≤◌, [], ◌∷◌, ◌++◌, length, slice_get, slice_set, OnOk};
+//! Lists with reserved room, of whatever items.
+ghost use Rattle.std.specs.Prelude.{◌≡◌, ◌+◌, ◌<◌, ◌≤◌, [], ◌∷◌, ◌++◌, length, slice_get, OnOk, IfOk};
 
 use crate::memory::NoMemory;
 use crate::products::{Limit, Product};
@@ -82,6 +83,13 @@ impl<X> Items<X> {
         &self.items[at]
     }
 
+    /// The items, as a slice.
+    pub fn as_slice(&self) -> &[X]
+        ensures { result.now ≡ self.now.items }
+    {
+        self.items.as_slice()
+    }
+
     /// Takes all items out. The room stays.
     pub fn clear(&mut self)
     where
@@ -93,13 +101,17 @@ impl<X> Items<X> {
     }
 }
 
-impl Items<u8> {
-    pub fn as_slice(&self) -> &[u8]
-        ensures { result.now ≡ self.now.items }
+impl<X: Copy> Items<X> {
+    /// A list of equal items.
+    pub fn copy(&self, alloc: Global) -> Result<Self, NoMemory>
+        ensures { IfOk result (λ copy. copy.items ≡ self.now.items) }
     {
-        self.items.as_slice()
+        let items = Vec::from_slice(alloc, &self.items)?;
+        Ok(Items { items })
     }
+}
 
+impl Items<u8> {
     /// Puts a piece last.
     pub fn push_slice(&mut self, piece: &[u8])
         requires { length piece.now ≤ self.old.spare }

@@ -1,3 +1,4 @@
+//! The one failure of calls that take memory.
 use std::alloc::{AllocError, AllocFailed};
 
 /// Memory ran out.

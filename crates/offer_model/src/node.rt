@@ -1,5 +1,6 @@
+//! Nodes: what the branches above have settled about each product.
 ghost use Rattle.std.specs.Prelude.{◌≡◌, ◌<◌, length, slice_set, IfOk};
-ghost use Rattle.offer_model.specs.Nodes.{mark_at, open_node};
+ghost use Rattle.offer_model.specs.Nodes.{mark_at, open_node, first_open};
 
 use crate::memory::NoMemory;
 use std::alloc::Global;
@@ -63,28 +64,24 @@ impl Node {
         self.marks[i] = mark;
     }
 
+    #[tactic(auto, using(crate::proofs::NodeLemmas::first_open_at, crate::proofs::NodeLemmas::first_open_none))]
+    /// The first Open product, in catalogue order.
+    pub fn first_open(&self) -> Option<usize>
+        ensures { result ≡ first_open self.now }
+    {
+        for i in 0..self.len() {
+            if self.mark(i) == Mark::Open {
+                return Some(i);
+            }
+        }
+        None
+    }
+
     /// Becomes equal to another node.
     pub fn copy_from(&mut self, other: &Node)
         requires { length self.old ≡ length other.now }
         ensures { self.new ≡ other.now }
     {
         self.marks.copy_from_slice(&other.marks);
-    }
-}
-
-#[cfg(test)]
-mod tests {
-    use super::{Mark, Node};
-
-    #[test]
-    fn a_node_is_marked_and_copied(rt: HostRuntime) {
-        let mut node = Node::open(rt.alloc(), 3).expect(&rt, "memory");
-        let mut other = Node::open(rt.alloc(), 3).expect(&rt, "memory");
-        node.set(1, Mark::In);
-        node.set(2, Mark::Out);
-        other.copy_from(&node);
-        assert!(rt;
-            other.mark(0) == Mark::Open && other.mark(1) == Mark::In && other.mark(2) == Mark::Out
-        );
     }
 }

@@ -1,3 +1,4 @@
+//! Numbers in words and files.
 ghost use Rattle.std.specs.Prelude.{◌≡◌};
 ghost use Rattle.offer_model.specs.Numerals.{number_of};
 

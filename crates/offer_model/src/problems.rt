@@ -1,3 +1,4 @@
+//! Problems: what is to be chosen from.
 ghost use Rattle.std.specs.Prelude.{◌≡◌};
 ghost use Rattle.offer_model.specs.Validity.{IsProblem};
 

@@ -1,3 +1,4 @@
+//! Products, limits, models and fractions.
 /// The choice models.
 #[derive(Clone, Copy, Debug, PartialEq, Eq)]
 pub enum ModelName {

@@ -1,3 +1,4 @@
+//! The ranges of the formats, as the code compares with them.
 /// The most products of a catalogue.
 pub const MOST_PRODUCTS: usize = 256;
 

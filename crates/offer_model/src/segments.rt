@@ -1,8 +1,11 @@
-ghost use Rattle.std.specs.Prelude.{◌≡◌, ◌<◌, length};
+//! Segments of the customers.
+ghost use Rattle.std.specs.Prelude.{◌≡◌, ◌<◌, length, IfOk};
 ghost use Rattle.offer_model.specs.Problems.{attraction_of, shadow_of};
 ghost use Rattle.offer_model.specs.Validity.{IsSegment};
 
 use crate::lists::Numbers;
+use crate::memory::NoMemory;
+use std::alloc::Global;
 use std::marker::Model;
 
 /// A segment of the customers: its size, the weight of buying nothing, and each product's attraction and
@@ -37,6 +40,15 @@ impl Segment {
             attract,
             shadow,
         }
+    }
+
+    /// An equal segment.
+    pub fn copy(&self, alloc: Global) -> Result<Segment, NoMemory>
+        ensures { IfOk result (λ copy. copy ≡ self.now) }
+    {
+        let attract = self.attract.copy(alloc)?;
+        let shadow = self.shadow.copy(alloc)?;
+        Ok(Segment::new(self.size, self.none, attract, shadow))
     }
 
     /// How many customers, as a weight from 1.

@@ -1,3 +1,4 @@
+//! Lists of texts.
 ghost use Rattle.std.specs.Prelude.{◌≡◌, ◌<◌, [], ◌∷◌, ◌++◌, length, slice_get, OnOk, OnErr};
 
 use crate::memory::NoMemory;

@@ -11,7 +11,8 @@ use Rattle.offer_model.proofs.TieLemmas.{tie}
 use Rattle.tree_search.specs.Goals.{Rules, IsLawful, IsOpenOf, IsBetter, IsFeasibleFor}
 use Rattle.tree_search.specs.Turns.{Walk, IsBeaten, IsDropped, IsOutcome, IsBestAfter, IsTaken, Turn, IsSound, least, HasBoundInRange}
 use Rattle.tree_search.specs.Progress.{CompletesSome, Covers, Matches, HasBy, Has, IsFeasibleBest, IsOwn, IsReached}
-use Rattle.tree_search.proofs.OrderLemmas.{before_total, fill_length, fill_only, divided, better_trans}
+use Rattle.tree_search.proofs.OrderLemmas.{before_total, fill_only, divided, better_trans}
+use Rattle.offer_model.proofs.NodeLemmas.{length-fill_of}
 
 module _ (r : Rules) where
   best_long : (best : Option (List Bool)) → IsFeasibleBest r best → (x : List Bool) → best ≡ Some x → length x ≡ r.products
@@ -136,7 +137,7 @@ module _ (r : Rules) where
 
     module _ (Does : Option (List Bool) → List Bool → Type 0) (keeps : Keeps Does) (y : List Bool) where
       taken_has : (o : Option ℕ) → IsOpenOf node o → IsTaken r old node rest o new → CompletesSome (node ∷ rest) y ⊎ Does old.best y → HasBy Does new y
-      taken_has None full t (inl (inl c)) = inr (subst (Does new.best) (fill_only node y full c) (keeps.met old.best new.best (fill_of node) (fill_length node ∙ long)
+      taken_has None full t (inl (inl c)) = inr (subst (Does new.best) (fill_only node y full c) (keeps.met old.best new.best (fill_of node) (length-fill_of node ∙ long)
           feasible t.1))
       taken_has None full t (inl (inr c)) = inl (subst (λ (s : List (List Mark)). CompletesSome s y) (sym t.0) c)
       taken_has None full t (inr c) = inr (keeps.grown old.best new.best (fill_of node) y t.1 c)
@@ -159,7 +160,7 @@ module _ (r : Rules) where
       turned_has dropped (inr t) h = taken_has (r.next node) (law.next node long) t.1 h
 
     taken_feasible : (o : Option ℕ) → IsOpenOf node o → (r.Clashing node → ⊥) → IsTaken r old node rest o new → IsFeasibleBest r new.best
-    taken_feasible None full free t = met_feasible old.best new.best (fill_of node) feasible (fill_length node ∙ long, law.full node long full free) t.1
+    taken_feasible None full free t = met_feasible old.best new.best (fill_of node) feasible (length-fill_of node ∙ long, law.full node long full free) t.1
     taken_feasible (Some i) is free t = subst (λ (w : Walk). IsFeasibleBest r w.best) (sym t) feasible
 
     turned_feasible : IsOutcome r seen old node rest new → IsFeasibleBest r new.best

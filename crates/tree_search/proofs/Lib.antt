@@ -8,4 +8,3 @@ pub mod WalkLemmas
 pub mod OpenLemmas
 pub mod WeightLemmas
 pub mod SearchLemmas
-pub mod SearchWorkedLemmas

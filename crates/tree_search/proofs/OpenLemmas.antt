@@ -1,27 +1,12 @@
--- The first Open product is the one before which none is Open.
+-- Which product is the first ranked one that is Open, and which the first that a limit forces.
 use Rattle.std.proofs.Common.{◌≡◌, ◌≢◌, ℕ, zero, suc, ◌<◌, true, false, Some, None, List, [], ◌∷◌, length, get_or, refl, ap, arith}
 use Rattle.std.specs.Prelude.{option_map}
 use Rattle.offer_model.specs.declared.node.Mark.{Mark}
 use Rattle.offer_model.specs.declared.node.Mark.TheVariants.{Open, In, Out}
 use Rattle.offer_model.specs.declared.products.Limit.{Limit}
-use Rattle.offer_model.specs.Nodes.{mark_at}
-use Rattle.tree_search.specs.declared.ranking.Ranked.{Ranked}
-use Rattle.tree_search.specs.Opens.{is_open, first_open, first_ranked, forced_by, first_forced}
-
-pub first_is : (node : List Mark) (i : ℕ) → i < length node → ((k : ℕ) → k < i → mark_at node k ≢ Open) → mark_at node i ≡ Open → first_open node ≡ Some i
-first_is [] i l none at = absurd (omega arith)
-first_is (Open ∷ node) zero l none at = refl
-first_is (Open ∷ node) (suc i) l none at = absurd (none 0 (omega arith) refl)
-first_is (In ∷ node) zero l none at = absurd cc
-first_is (In ∷ node) (suc i) l none at = ap (option_map suc) (first_is node i (omega arith) (λ k m. none (suc k) (omega arith)) at)
-first_is (Out ∷ node) zero l none at = absurd cc
-first_is (Out ∷ node) (suc i) l none at = ap (option_map suc) (first_is node i (omega arith) (λ k m. none (suc k) (omega arith)) at)
-
-pub first_none : (node : List Mark) → ((k : ℕ) → k < length node → mark_at node k ≢ Open) → first_open node ≡ None
-first_none [] none = refl
-first_none (Open ∷ node) none = absurd (none 0 (omega arith) refl)
-first_none (In ∷ node) none = ap (option_map suc) (first_none node (λ k m. none (suc k) (omega arith)))
-first_none (Out ∷ node) none = ap (option_map suc) (first_none node (λ k m. none (suc k) (omega arith)))
+use Rattle.offer_model.specs.Nodes.{mark_at, is_open}
+use Rattle.tree_search.specs.declared.branch_order.Ranked.{Ranked}
+use Rattle.tree_search.specs.Opens.{first_ranked, forced_by, first_forced}
 
 pub ranked_is : (order : List Ranked) (node : List Mark) (k : ℕ) (d : Ranked) → k < length order
     → ((j : ℕ) → j < k → is_open (mark_at node (get_or order j d).product) ≡ false) → is_open (mark_at node (get_or order k d).product) ≡ true

@@ -4,22 +4,21 @@ use Rattle.std.specs.Prelude.{pos, All, Result, Ok, Err, IfOk}
 use Rattle.std.proofs.lemmas.List.Elements.{All-get_or}
 use Rattle.offer_model.specs.declared.node.Mark.{Mark}
 use Rattle.offer_model.specs.Problems.{ProblemData}
-use Rattle.linear_step.specs.Weights.{WeightsData, AreWeights, prices_of}
+use Rattle.linear_weights.specs.Weights.{WeightsData, AreWeights, prices_of}
 use Rattle.linear_step.specs.Answers.{Answers}
-use Rattle.multiplier_bound.specs.Pricing.{PriceListData}
 use Rattle.multiplier_bound.specs.Fits.{Relaxes}
 use Rattle.multiplier_bound.proofs.CallerLemmas.{Relaxes-bounds}
-use Rattle.tree_search.specs.declared.ranking.Ranked.{Ranked}
+use Rattle.tree_search.specs.declared.branch_order.Ranked.{Ranked}
 use Rattle.tree_search.specs.Goals.{IsGreatestOf}
 use Rattle.tree_search.specs.WeightGoals.{list_at, weights_rules, AreBounds}
 
 -- ---- Relaxed prices bound.
 
-relaxed_at : (p : ProblemData) (w : WeightsData) (lists : List PriceListData) (k : ℕ) → All (Relaxes p (prices_of w)) lists → k < length lists
+relaxed_at : (p : ProblemData) (w : WeightsData) (lists : List WeightsData) (k : ℕ) → All (Relaxes p (prices_of w)) lists → k < length lists
     → Relaxes p (prices_of w) (list_at lists k)
-relaxed_at p w lists k r l = All-get_or (Relaxes p (prices_of w)) lists k (record { each = []; constant = pos 0 }) l r
+relaxed_at p w lists k r l = All-get_or (Relaxes p (prices_of w)) lists k (record { items = []; constant = pos 0; room = 0 }) l r
 
-pub relaxed_bound : (p : ProblemData) (w : WeightsData) (lists : List PriceListData) → AreWeights p w → length lists ≡ 9
+pub relaxed_bound : (p : ProblemData) (w : WeightsData) (lists : List WeightsData) → AreWeights p w → length lists ≡ 9
     → All (Relaxes p (prices_of w)) lists → AreBounds p w lists
 relaxed_bound p w lists fit nine r = record {
   weights = fit;
@@ -33,7 +32,7 @@ relaxed_bound p w lists fit nine r = record {
 
 -- ---- A greatest one answers the step.
 
-pub greatest_answers : (p : ProblemData) (w : WeightsData) (root : List Mark) (lists : List PriceListData) (order : List Ranked) (o : Option (List Bool))
+pub greatest_answers : (p : ProblemData) (w : WeightsData) (root : List Mark) (lists : List WeightsData) (order : List Ranked) (o : Option (List Bool))
     → IsGreatestOf (weights_rules p (prices_of w) root lists order) o → Answers p (prices_of w) root o
 greatest_answers p w root lists order (Some x) t = record {
   feasible = t.0.1.0;
@@ -42,7 +41,7 @@ greatest_answers p w root lists order (Some x) t = record {
 }
 greatest_answers p w root lists order None t = λ y f c. t y (f.0, (f, c))
 
-pub found_answers : {E : Type 0} (p : ProblemData) (w : WeightsData) (root : List Mark) (lists : List PriceListData) (order : List Ranked) (r : Result (Option (List Bool)) E)
+pub found_answers : {E : Type 0} (p : ProblemData) (w : WeightsData) (root : List Mark) (lists : List WeightsData) (order : List Ranked) (r : Result (Option (List Bool)) E)
     → IfOk r (IsGreatestOf (weights_rules p (prices_of w) root lists order)) → IfOk r (Answers p (prices_of w) root)
 found_answers p w root lists order (Ok o) t = greatest_answers p w root lists order o t
 found_answers p w root lists order (Err e) t = tt

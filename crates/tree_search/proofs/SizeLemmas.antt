@@ -3,10 +3,11 @@ use Rattle.std.proofs.Common.{◌≡◌, ℕ, zero, suc, ◌+◌, ◌<◌, ◌�
 use Rattle.std.specs.Prelude.{ℤ}
 use Rattle.offer_model.specs.declared.node.Mark.{Mark}
 use Rattle.offer_model.specs.declared.node.Mark.TheVariants.{Open, In, Out}
-use Rattle.offer_model.specs.Nodes.{mark_at}
+use Rattle.offer_model.specs.Nodes.{mark_at, one_if_open, opens}
+use Rattle.offer_model.proofs.NodeLemmas.{open_inside, opens-le_length}
 use Rattle.tree_search.specs.Goals.{Rules, IsLawful, IsOpenOf}
 use Rattle.tree_search.specs.Turns.{Walk, IsOutcome, IsTaken, Turn, IsSound}
-use Rattle.tree_search.specs.Rooms.{one_if_open, opens, Rooms}
+use Rattle.tree_search.specs.Rooms.{Rooms}
 use Rattle.tree_search.proofs.CoverLemmas.{top_long}
 
 -- A node with n Open products, and all nodes that can come of it.
@@ -27,17 +28,6 @@ pub settled : (node : List Mark) (i : ℕ) (m : Mark) → mark_at node i ≡ Ope
 settled [] i m o z = absurd cc
 settled (k ∷ node) zero m o z = let e : k ≡ Open = o in let l : one_if_open k ≡ 1 = ap one_if_open e in omega arith
 settled (k ∷ node) (suc i) m o z = let r = settled node i m o z in omega arith
-
-pub opens_le : (node : List Mark) → opens node ≤ length node
-opens_le [] = omega arith
-opens_le (Open ∷ node) = let r = opens_le node in omega arith
-opens_le (In ∷ node) = let r = opens_le node in omega arith
-opens_le (Out ∷ node) = let r = opens_le node in omega arith
-
-pub open_below : (node : List Mark) (i : ℕ) → mark_at node i ≡ Open → i < length node
-open_below [] i o = absurd cc
-open_below (m ∷ node) zero o = omega arith
-open_below (m ∷ node) (suc i) o = let r = open_below node i o in omega arith
 
 -- ---- Room.
 

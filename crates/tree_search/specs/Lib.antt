@@ -8,4 +8,3 @@ pub mod WeightGoals
 pub mod WeightLaws
 pub mod SearchFits
 pub mod WorkedGoals
-pub mod WorkedSearches

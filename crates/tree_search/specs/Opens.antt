@@ -6,21 +6,10 @@ use Rattle.offer_model.specs.declared.node.Mark.{Mark}
 use Rattle.offer_model.specs.declared.node.Mark.TheVariants.{In, Out, Open}
 use Rattle.offer_model.specs.declared.products.Limit.{Limit}
 use Rattle.offer_model.specs.declared.products.Limit.TheVariants.{Total, Category, Requires, Shelf, Ladder}
-use Rattle.offer_model.specs.Nodes.{mark_at}
-use Rattle.tree_search.specs.declared.ranking.Ranked.{Ranked}
+use Rattle.offer_model.specs.Nodes.{mark_at, is_open, first_open}
+use Rattle.tree_search.specs.declared.branch_order.Ranked.{Ranked}
+use Rattle.offer_model.proofs.PotentialLemmas.{is_open-true}
 use Rattle.tree_search.specs.Goals.{IsOpenOf}
-
-abbrev pub is_open : Mark → Bool
-is_open Open = true
-is_open In = false
-is_open Out = false
-
--- The first Open product.
-abbrev pub first_open : List Mark → Option ℕ
-first_open [] = None
-first_open (Open ∷ node) = Some 0
-first_open (In ∷ node) = option_map suc (first_open node)
-first_open (Out ∷ node) = option_map suc (first_open node)
 
 -- The first ranked product that is Open.
 abbrev pub first_ranked : List Ranked → List Mark → Option ℕ
@@ -71,16 +60,11 @@ first_is_open (Open ∷ node) = refl
 first_is_open (In ∷ node) = further_is_open In node (first_open node) (first_is_open node) (λ e. cc)
 first_is_open (Out ∷ node) = further_is_open Out node (first_open node) (first_is_open node) (λ e. cc)
 
-open_is : (m : Mark) → is_open m ≡ true → m ≡ Open
-open_is Open e = refl
-open_is In e = cc
-open_is Out e = cc
-
 ranked_is_open : (order : List Ranked) (node : List Mark) (i : ℕ) → first_ranked order node ≡ Some i → mark_at node i ≡ Open
 ranked_is_open [] node i e = cc
 ranked_is_open (r ∷ order) node i e = elim (is_open (mark_at node r.product)) as (λ v. is_open (mark_at node r.product) ≡ v
     → (if v then Some r.product else first_ranked order node) ≡ Some i → mark_at node i ≡ Open) [
-      | true ↦ λ t h. let same : r.product ≡ i = cc in rw (← same) (open_is (mark_at node r.product) t)
+      | true ↦ λ t h. let same : r.product ≡ i = cc in rw (← same) (is_open-true (mark_at node r.product) t)
       | false ↦ λ t h. ranked_is_open order node i h
     ] refl e
 

@@ -10,9 +10,8 @@ use Rattle.offer_model.specs.Problems.{ProblemData, product_count}
 use Rattle.offer_model.specs.Limits.{IsFeasible}
 use Rattle.offer_model.specs.Nodes.{mark_at, Completes, Clashes}
 use Rattle.offer_model.specs.Prices.{Prices, worth_of, greatest_worth}
-use Rattle.linear_step.specs.Weights.{WeightsData, AreWeights, prices_of}
-use Rattle.multiplier_bound.specs.Pricing.{PriceListData, prices_in, SumsFit}
-use Rattle.tree_search.specs.declared.ranking.Ranked.{Ranked}
+use Rattle.linear_weights.specs.Weights.{WeightsData, AreWeights, prices_of, SumsFit}
+use Rattle.tree_search.specs.declared.branch_order.Ranked.{Ranked}
 use Rattle.tree_search.specs.Goals.{Rules}
 use Rattle.tree_search.specs.Opens.{next_by}
 
@@ -32,19 +31,19 @@ is_opposite Open Open = false
 abbrev pub Disagrees : List Mark → List Mark → Type 0
 Disagrees root node = (i : ℕ) × (i < length node) × (is_opposite (mark_at root i) (mark_at node i) ≡ true)
 
-abbrev pub list_at : List PriceListData → ℕ → PriceListData
-list_at lists k = slice_index_or lists k (record { each = []; constant = pos 0 })
+abbrev pub list_at : List WeightsData → ℕ → WeightsData
+list_at lists k = slice_index_or lists k (record { items = []; constant = pos 0; room = 0 })
 
 -- The greatest worth of the node's completions at the prices of one list, with limits left aside.
-abbrev pub greatest_at : ProblemData → List PriceListData → List Mark → ℕ → ℤ
-greatest_at p lists node k = greatest_worth p node (prices_in (list_at lists k))
+abbrev pub greatest_at : ProblemData → List WeightsData → List Mark → ℕ → ℤ
+greatest_at p lists node k = greatest_worth p node (prices_of (list_at lists k))
 
 -- The least of these, of the lists up to place k.
-abbrev pub least_greatest : ProblemData → List PriceListData → List Mark → ℕ → ℤ
+abbrev pub least_greatest : ProblemData → List WeightsData → List Mark → ℕ → ℤ
 least_greatest p lists node zero = greatest_at p lists node 0
 least_greatest p lists node (suc k) = int_min (least_greatest p lists node k) (greatest_at p lists node (suc k))
 
-abbrev pub weights_rules : ProblemData → Prices → List Mark → List PriceListData → List Ranked → Rules
+abbrev pub weights_rules : ProblemData → Prices → List Mark → List WeightsData → List Ranked → Rules
 weights_rules p at root lists order = record {
   products = product_count p;
   value = worth_of p at;
@@ -55,13 +54,13 @@ weights_rules p at root lists order = record {
 }
 
 -- There are some lists, each has a price for each product, and sums of its prices fit.
-pub record AreLists (p : ProblemData) (lists : List PriceListData) : Type 0 where
+pub record AreLists (p : ProblemData) (lists : List WeightsData) : Type 0 where
   pub some : 0 < length lists
-  pub each : (k : ℕ) → k < length lists → length (list_at lists k).each ≡ product_count p
-  pub sums : (k : ℕ) → k < length lists → (node : List Mark) → SumsFit p node (prices_in (list_at lists k))
+  pub each : (k : ℕ) → k < length lists → length (list_at lists k).items ≡ product_count p
+  pub sums : (k : ℕ) → k < length lists → (node : List Mark) → SumsFit p node (prices_of (list_at lists k))
 
 -- At the weights no feasible completion of any node is worth more than the greatest worth at any of the lists.
-pub record AreBounds (p : ProblemData) (w : WeightsData) (lists : List PriceListData) : Type 0 where
+pub record AreBounds (p : ProblemData) (w : WeightsData) (lists : List WeightsData) : Type 0 where
   pub weights : AreWeights p w
   pub held : AreLists p lists
   pub bounds : (k : ℕ) → k < length lists → (node : List Mark) (y : List Bool) → IsFeasible p y → Completes node y

@@ -9,10 +9,9 @@ use Rattle.offer_model.specs.Assortments.{offers}
 use Rattle.offer_model.specs.Problems.{ProblemData, product_count}
 use Rattle.offer_model.specs.Nodes.{mark_at, Agrees, Completes}
 use Rattle.offer_model.proofs.CompletionLemmas.{Completes-agrees, clash_none}
-use Rattle.linear_step.specs.Weights.{WeightsData, prices_of}
-use Rattle.multiplier_bound.specs.Pricing.{PriceListData}
-use Rattle.multiplier_bound.proofs.FullNodeLemmas.{full_feasible, full_completes}
-use Rattle.tree_search.specs.declared.ranking.Ranked.{Ranked}
+use Rattle.linear_weights.specs.Weights.{WeightsData, prices_of}
+use Rattle.offer_model.proofs.FullNodeLemmas.{full_feasible, full_completes}
+use Rattle.tree_search.specs.declared.branch_order.Ranked.{Ranked}
 use Rattle.tree_search.specs.Goals.{IsLawful}
 use Rattle.tree_search.specs.Opens.{next_is_open}
 use Rattle.tree_search.specs.WeightGoals.{is_opposite, Disagrees, greatest_at, least_greatest, weights_rules, AreBounds}
@@ -45,13 +44,13 @@ le_int_min : (z a b : ℤ) → z ≤ℤ a → z ≤ℤ b → z ≤ℤ int_min a 
 le_int_min z a b h k = elim (int_lt b a) as (λ v. z ≤ℤ cond v b a) [ true ↦ k | false ↦ h ]
 
 -- What is at most each is at most the least.
-below_least : (p : ProblemData) (lists : List PriceListData) (node : List Mark) (z : ℤ) (k : ℕ) → ((j : ℕ) → j ≤ k → z ≤ℤ greatest_at p lists node j)
+below_least : (p : ProblemData) (lists : List WeightsData) (node : List Mark) (z : ℤ) (k : ℕ) → ((j : ℕ) → j ≤ k → z ≤ℤ greatest_at p lists node j)
     → z ≤ℤ least_greatest p lists node k
 below_least p lists node z zero h = h 0 (omega arith)
 below_least p lists node z (suc k) h =
     le_int_min z _ _ (below_least p lists node z k (λ j l. h j (omega arith))) (h (suc k) (omega arith))
 
-pub weights_lawful : (p : ProblemData) (w : WeightsData) (root : List Mark) (lists : List PriceListData) (order : List Ranked) → AreBounds p w lists
+pub weights_lawful : (p : ProblemData) (w : WeightsData) (root : List Mark) (lists : List WeightsData) (order : List Ranked) → AreBounds p w lists
     → length root ≡ product_count p → IsLawful (weights_rules p (prices_of w) root lists order)
 weights_lawful p w root lists order b long = record {
   clashing = λ node x l k c f. elim k [ inl h ↦ clash_none p node x h f.0 c | inr d ↦ disagrees_none root node x d f.1 c ];

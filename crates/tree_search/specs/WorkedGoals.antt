@@ -9,7 +9,8 @@ use Rattle.offer_model.specs.Nodes.{mark_at, Agrees, Completes}
 use Rattle.offer_model.proofs.SumLemmas.{sum_le}
 use Rattle.offer_model.proofs.CompletionLemmas.{Completes-agrees}
 use Rattle.tree_search.specs.Goals.{Rules, IsLawful}
-use Rattle.tree_search.specs.Opens.{first_open, first_is_open}
+use Rattle.offer_model.specs.Nodes.{first_open}
+use Rattle.tree_search.specs.Opens.{first_is_open}
 
 -- How many of n products are offered.
 abbrev pub offered_of : ℕ → List Bool → ℕ

@@ -1,16 +1,18 @@
+//! The step under limits of whatever kinds.
 ghost use Rattle.std.specs.Prelude.{◌≡◌, ◌↔◌, length, IfOk, All, vec_capacity};
 ghost use Rattle.offer_model.specs.Problems.{ProblemData, product_count};
 ghost use Rattle.offer_model.specs.Validity.{IsProblem};
-ghost use Rattle.linear_step.specs.Weights.{AreWeights, prices_of};
+ghost use Rattle.linear_weights.specs.Weights.{AreWeights, prices_of};
 ghost use Rattle.multiplier_bound.specs.Fits.{HasLists, Relaxes};
 ghost use Rattle.tree_search.specs.WeightGoals.{AreBounds};
 ghost use Rattle.tree_search.specs.SearchFits.{AreLong, FitsSearch};
 
-use crate::alone::search_any;
-use crate::ranking::{Ranked, rank};
+use crate::branch_order::{Ranked, rank};
+use crate::search::search_any;
 use crate::weights_goal::WeightsGoal;
-use linear_step::{Step, Steps, Weights};
-use multiplier_bound::{Descent, PriceList};
+use linear_step::{Step, Steps};
+use linear_weights::Weights;
+use multiplier_bound::Descent;
 use offer_model::{Assortment, NoMemory, Node, Problem};
 use std::alloc::Global;
 use std::marker::Brand;
@@ -28,22 +30,22 @@ const UNSCALED: usize = 4;
 pub struct SearchStep {
     alloc: Global,
     descent: Descent,
-    lists: Vec<PriceList>,
+    lists: Vec<Weights>,
     order: Vec<Ranked>,
 }
 
-fn reserve_lists(alloc: Global, n: usize) -> Result<Vec<PriceList>, NoMemory>
+fn reserve_lists(alloc: Global, n: usize) -> Result<Vec<Weights>, NoMemory>
     ensures { IfOk result (λ lists. AreLong n lists.items) }
 {
     let mut lists = Vec::with_capacity(alloc, SCALES.len())?;
     for _scale in 0..SCALES.len() {
-        lists.push_reserved(PriceList::new(alloc, n)?);
+        lists.push_reserved(Weights::new(alloc, n)?);
     }
     Ok(lists)
 }
 
 /// Each list becomes the prices that the multipliers make of the weights at its scale.
-fn relax_each(p: &Problem, weights: &Weights, descent: &mut Descent, lists: &mut Vec<PriceList>)
+fn relax_each(p: &Problem, weights: &Weights, descent: &mut Descent, lists: &mut Vec<Weights>)
     requires valid { IsProblem p.now }
     requires limits { HasLists p.now descent.old }
     requires weights { AreWeights p.now weights.now }

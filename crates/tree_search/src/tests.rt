@@ -1,7 +1,6 @@
 ghost use Rattle.std.specs.Prelude.{◌≡◌, [], length};
 ghost use Rattle.tree_search.specs.WorkedGoals.{offered_of, left_of, one_unless_out};
 
-use crate::opens::first_open;
 use crate::tasks::tasks_of;
 use crate::{Goal, Walker, search_alone};
 use offer_model::{Assortment, Mark, NoMemory, Node};
@@ -82,7 +81,7 @@ impl Goal for TheMore<'_> {
     }
 
     fn next(&self, node: &Node) -> Option<usize> {
-        first_open(node)
+        node.first_open()
     }
 
     fn fork(&self, _alloc: Global) -> Result<Self, NoMemory> {

@@ -1,3 +1,4 @@
+//! A depth-first search, one node at a time.
 ghost use Rattle.std.specs.Prelude.{◌≡◌, ◌≢◌, ◌↔◌, ◌+◌, ◌<◌, ◌≤◌, ◌++◌, [], ◌∷◌, length, slice_set, vec_len, vec_capacity, option_copied, IfOk, IsTrue};
 ghost use Rattle.offer_model.specs.declared.node.Mark.TheVariants.{In, Out};
 ghost use Rattle.tree_search.specs.Tasks.{tasks_of, task_of};
@@ -5,7 +6,7 @@ ghost use Rattle.tree_search.specs.Turns.{with_stack, Turn, IsSound, HasBoundInR
 ghost use Rattle.tree_search.specs.Rooms.{AllLong};
 
 use crate::goal::Goal;
-use crate::judging::{is_dropped, meet};
+use crate::pruning::{is_dropped, meet};
 use crate::tasks::{depth_of, next_of, settle_task};
 use limit_rules::fill_out;
 use offer_model::{Assortment, Mark, NoMemory, Node};

@@ -1,16 +1,16 @@
+//! The goal that the step searches: feasible completions of a node, and what they weigh.
 ghost use Rattle.std.specs.Prelude.{◌≡◌, ◌↔◌, ◌-◌, ◌^◌, ◌<◌, length, IsTrue, pos, ◌+ℤ◌, cond};
 ghost use Rattle.offer_model.specs.Problems.{product_count};
 ghost use Rattle.offer_model.specs.Nodes.{Agrees, Completes};
 ghost use Rattle.offer_model.specs.Prices.{worth_of};
-ghost use Rattle.linear_step.specs.Weights.{IsWithin, AreWeights, prices_of};
+ghost use Rattle.linear_weights.specs.Weights.{IsWithin, AreWeights, prices_of};
 ghost use Rattle.tree_search.specs.WeightGoals.{is_opposite, Disagrees, least_greatest, AreLists, AreBounds};
 
+use crate::branch_order::Ranked;
+use crate::branching::next_by;
 use crate::goal::Goal;
-use crate::opens::next_by;
-use crate::ranking::Ranked;
 use limit_rules::{clashes, first_broken};
-use linear_step::Weights;
-use multiplier_bound::PriceList;
+use linear_weights::Weights;
 use offer_model::{Assortment, Mark, NoMemory, Node, Problem};
 use std::alloc::Global;
 
@@ -21,39 +21,13 @@ pub struct WeightsGoal<'a> {
     pub problem: &'a Problem,
     pub weights: &'a Weights,
     pub root: &'a Node,
-    pub lists: &'a [PriceList],
+    pub lists: &'a [Weights],
     pub order: &'a [Ranked],
     ghost bounds: { AreBounds problem.now weights.now lists.now },
     ghost root_long: { length root.now ≡ product_count problem.now },
 }
 
-/// What a product adds to an assortment's weight.
-fn added(offered: bool, weight: i128) -> i128
-    ensures { result ≡ cond offered weight (pos 0) }
-{
-    if offered { weight } else { 0 }
-}
-
-fn plus(a: i128, b: i128) -> i128
-    requires { IsWithin (2 ^ 126) (a +ℤ b) }
-    ensures { result ≡ a +ℤ b }
-{
-    a + b
-}
-
-/// What an assortment weighs.
-fn worth(p: &Problem, weights: &Weights, x: &Assortment) -> i128
-    requires weights { AreWeights p.now weights.now }
-    requires long { length x.now ≡ product_count p.now }
-    ensures { result ≡ worth_of p.now (prices_of weights.now) x.now }
-{
-    let mut sum = weights.constant();
-    for i in 0..p.products().len() {
-        sum = plus(sum, added(x.offers(i), weights.get(i)));
-    }
-    sum
-}
-
+/// Whether one mark is In and the other Out.
 fn is_opposite(a: Mark, b: Mark) -> bool
     ensures { result ≡ is_opposite a b }
 {
@@ -77,6 +51,7 @@ fn disagrees(root: &Node, node: &Node) -> bool
     false
 }
 
+/// Whether what is offered agrees with the mark.
 fn agrees(mark: Mark, offered: bool) -> bool
     ensures { IsTrue result ↔ Agrees mark offered }
 {
@@ -101,7 +76,7 @@ fn completes(node: &Node, x: &Assortment) -> bool
 }
 
 /// The least of the greatest worths of the node's completions at the lists.
-fn least_greatest(p: &Problem, lists: &[PriceList], node: &Node) -> i128
+fn least_greatest(p: &Problem, lists: &[Weights], node: &Node) -> i128
     requires lists { AreLists p.now lists.now }
     requires node { length node.now ≡ product_count p.now }
     ensures { result ≡ least_greatest p.now lists.now node.now (length lists.now - 1) }
@@ -114,7 +89,7 @@ fn least_greatest(p: &Problem, lists: &[PriceList], node: &Node) -> i128
 }
 
 impl Goal for WeightsGoal<'_> {
-    ghost use Rattle.linear_step.specs.Weights.{prices_of};
+    ghost use Rattle.linear_weights.specs.Weights.{prices_of};
     ghost use Rattle.tree_search.specs.WeightGoals.{weights_rules};
     ghost use Rattle.tree_search.specs.WeightLaws.{weights_lawful};
 
@@ -125,7 +100,7 @@ impl Goal for WeightsGoal<'_> {
     }
 
     fn value(&self, x: &Assortment) -> i128 {
-        worth(self.problem, self.weights, x)
+        self.weights.worth(self.problem, x)
     }
 
     fn feasible(&self, x: &Assortment) -> bool {

@@ -7,5 +7,5 @@ abbrev pub invariant-loop-round : goal.invariant-loop-round
 invariant-loop-round l = record {
   us : length l.us.items ≡ length l.fn.us.items;
   small : AreSmall l.us.items;
-  each : length l.moved-inside.each.items ≡ product_count l.p;
+  each : length l.moved.items ≡ product_count l.p;
 }

@@ -2,8 +2,8 @@ use Rattle.std.proofs.Common.{sym, subst, arith}
 use Rattle.std.specs.Prelude.{slice_index}
 use Rattle.offer_model.specs.Validity.{IsInRange, NamesExisting}
 use Rattle.offer_model.specs.LeafBounds.{priced_limit_at, IsMultiplier}
-use Rattle.linear_step.specs.Weights.{prices_of}
-use Rattle.multiplier_bound.specs.Pricing.{prices_in, IsMoved}
+use Rattle.linear_weights.specs.Weights.{prices_of}
+use Rattle.multiplier_bound.specs.Pricing.{IsMoved}
 use Rattle.multiplier_bound.proofs.RelaxLemmas.{limit_is, named_is, range_is, relaxed_small, constant_small, relaxed_more}
 use Rattle.multiplier_bound.proofs.multipliers.move_by_all.Goals as goal
 
@@ -34,6 +34,6 @@ move_by-requires-clause-constant c =
 pub loop-k-preserved : goal.loop-k-preserved
 loop-k-preserved c =
     let e = limit_is c.args.p.now c.args.priced.now.items c.loop-k.k c.get.result.now c.requires.priced c.get.ensures in
-    let moved = subst (λ z. IsMoved c.args.p.now z (slice_index c.args.numbers.now.items c.loop-k.k) (prices_in c.loop-k.list) c.move_by.new.list) (sym e)
-    (subst (λ u. IsMoved c.args.p.now c.get.result.now u (prices_in c.loop-k.list) c.move_by.new.list) c.number_at.ensures.value c.move_by.ensures) in
+    let moved = subst (λ z. IsMoved c.args.p.now z (slice_index c.args.numbers.now.items c.loop-k.k) (prices_of c.loop-k.list) c.move_by.new.list) (sym e)
+    (subst (λ u. IsMoved c.args.p.now c.get.result.now u (prices_of c.loop-k.list) c.move_by.new.list) c.number_at.ensures.value c.move_by.ensures) in
     relaxed_more c.args.p.now c.args.numbers.now.items (prices_of c.args.weights.now) c.loop-k.list c.move_by.new.list c.loop-k.k c.loop-k.invariant moved

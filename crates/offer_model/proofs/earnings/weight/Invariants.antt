@@ -1,0 +1,12 @@
+use Rattle.std.proofs.Common.{◌≡◌, ◌+◌, ◌*◌, ◌≤◌, ◌^◌, cond}
+use Rattle.offer_model.specs.Assortments.{offers, sum_below}
+use Rattle.offer_model.specs.Problems.{segment_at, attraction_of, shadow_of}
+use Rattle.offer_model.proofs.earnings.weight.Given as goal
+
+abbrev pub invariant-loop-i : goal.invariant-loop-i
+invariant-loop-i l = record {
+  sum : l.total ≡ (segment_at l.p l.g).none
+      + sum_below l.i (λ i. cond (offers l.x i) (attraction_of (segment_at l.p l.g) i) (shadow_of (segment_at l.p l.g) i));
+  low : 1 ≤ l.total;
+  small : l.total ≤ (l.i + 1) * 10 ^ 9;
+}

@@ -1,0 +1,13 @@
+use Rattle.std.proofs.Common.{◌≡◌, [], true}
+use Rattle.tree_search.specs.Progress.{Covers, Matches, Progress}
+use Rattle.tree_search.proofs.search.search.Given as goal
+
+abbrev pub invariant-loop-task : goal.invariant-loop-task
+invariant-loop-task g l =
+    let r = g.T.Goal.rules l.initial.goal in
+    record {
+      same : l.goal ≡ l.initial.goal;
+      empty : l.walker.stack ≡ [];
+      progress : l.equals ≡ true → Progress r (Covers r) l.task l.walker;
+      matched : Progress r (Matches r) l.task l.walker;
+    }
