@@ -18,7 +18,7 @@ use Rattle.cut_step.specs.declared.reach.Spot.TheVariants.{Free, Kept, At}
 use Rattle.cut_step.specs.Closures.{first_of, second_of, AreNamed, price_at}
 use Rattle.cut_step.specs.Flows.{at, source_of, target_of}
 use Rattle.cut_step.specs.Trees.{entry_at, product_of, before, over, cap, Leads, IsTree}
-use Rattle.cut_step.specs.Searches.{spot_at, is_seen, seen, unseen, gives, takes, ShutAt, IsSearched, Grown, NoneTakes, Tried, Looked, Rooted}
+use Rattle.cut_step.specs.Searches.{spot_at, is_seen, seen, unseen, gives, takes, ShutAt, IsSpent, IsSearched, Grown, NoneTakes, Tried, Looked, Rooted}
 use Rattle.cut_step.proofs.TotalLemmas.{sum_less}
 
 pub by_last : (P : ℕ → Type 0) (n m : ℕ) → m ≡ n + 1 → ((j : ℕ) → j < n → P j) → P n → (j : ℕ) → j < m → P j
@@ -179,6 +179,10 @@ target_below : (rows : List Row) (n k : ℕ) (b : Bool) → k < length rows → 
 target_below rows n k true l h = (h k l).0
 target_below rows n k false l h = (h k l).1
 
+both_shut : (rows : List Row) (f : List ℕ) (s : ℕ → Bool) (k : ℕ) (b : Bool) → s (source_of rows k b) ≡ true → s (target_of rows k b) ≡ true → ShutAt rows f s k
+both_shut rows f s k true x y = record { on = λ h. x; back = λ some h. y }
+both_shut rows f s k false x y = record { on = λ h. y; back = λ some h. x }
+
 -- A row that leads to a product that wasn't reached adds it.
 pub tried_over : (rows : List Row) (node : List Mark) (phase : Phase) (f : List ℕ) (r : List ℤ) (spots spots' : List Spot) (tree tree' : List Entry) (k p c : ℕ) (b : Bool)
     → IsSearched rows node phase f r spots tree → AreNamed rows (length spots) → k < length rows
@@ -196,12 +200,9 @@ tried_over rows node phase f r spots spots' tree tree' k p c b s names l at free
       step = λ q. record { row = l; source = sym t.1; target = refl; narrows = narrow; holds = hold; room = room };
     } in
     let g = grown rows node phase f r spots spots' tree tree' e s (target_below rows (length spots) k b l names) free joins tree_is spots_is in
-    record { searched = g.0; grown = g.1; longer = λ q. g.2; spots_stay = λ q. cc; tree_stays = λ q. cc; shut = λ q. cc }
-
-pub get_or_any : {A : Type 0} (xs : List A) (i : ℕ) (d e : A) → i < length xs → get_or xs i d ≡ get_or xs i e
-get_or_any [] i d e l = absurd (omega arith)
-get_or_any (x ∷ xs) zero d e l = refl
-get_or_any (x ∷ xs) (suc i) d e l = get_or_any xs i d e (omega arith)
+    let target = ap is_seen (on rows node phase f r spots spots' tree tree' e s (target_below rows (length spots) k b l names) free joins tree_is spots_is) in
+    let source = g.1.more (source_of rows k b) (ap is_seen at) in
+    record { searched = g.0; grown = g.1; longer = λ q. g.2; tree_stays = λ q. cc; shut = both_shut rows f (seen spots') k b source target }
 
 gives_none : (phase : Phase) (m : Mark) (z : ℤ) → 0 < gives phase m z → takes phase m z ≡ false
 gives_none Forced In z h = refl
@@ -243,20 +244,42 @@ looked_on rows node phase f r spots spots' tree tree' k none t last =
       told = by_last (λ j. takes phase (mark_at node (product_of tree' j)) (price_at r (product_of tree' j)) ≡ false) (length tree) (length tree') len
           (λ j l. subst (λ (x : Entry). takes phase (mark_at node x.product) (price_at r x.product) ≡ false) (sym (t.grown.front j l)) (none j l))
           (subst (λ (x : ℕ). takes phase (mark_at node (product_of tree' x)) (price_at r (product_of tree' x)) ≡ false) place last);
-      spots_stay = λ q. absurd (omega (arith, len));
-      shut = λ n q. absurd (omega (arith, len));
+      shut = t.shut;
     }
 
--- One more row was tried without finding anything.
-pub passed_more : (rows : List Row) (node : List Mark) (phase : Phase) (f : List ℕ) (r : List ℤ) (spots0 spots spots' : List Spot) (tree0 tree tree' : List Entry) (k : ℕ)
-    → Grown spots0 tree0 spots tree → (length tree ≡ length tree0 → (j : ℕ) → j < k → ShutAt rows f (seen spots) j)
-    → Looked rows node phase f r spots tree spots' tree' k None
-    → length tree' ≡ length tree0 → (j : ℕ) → j < k + 1 → ShutAt rows f (seen spots') j
-passed_more rows node phase f r spots0 spots spots' tree0 tree tree' k g shut l q =
-    let same : length tree' ≡ length tree = omega (arith, g.longer, l.grown.longer, q) in
-    below_more (λ j. ShutAt rows f (seen spots') j) k
-    (λ j lj. subst (λ (x : List Spot). ShutAt rows f (seen x) j) (sym (l.spots_stay same)) (shut (omega (arith, same, q)) j lj))
-    (l.shut refl same)
+-- Where an end of a shut row is seen, the row is spent from there.
+pub shut_spent : (rows : List Row) (f : List ℕ) (s : ℕ → Bool) (i k : ℕ) → s i ≡ true → ShutAt rows f s k → IsSpent rows f s i k
+shut_spent rows f s i k here h = record {
+  on = λ e. h.on (ap s e ∙ here);
+  back = λ some e. h.back some (ap s e ∙ here);
+}
+
+-- What is spent stays so as the search goes on.
+pub spent_more : (rows : List Row) (f : List ℕ) (s t : ℕ → Bool) (i k : ℕ) → ((j : ℕ) → s j ≡ true → t j ≡ true) → IsSpent rows f s i k → IsSpent rows f t i k
+spent_more rows f s t i k more h = record {
+  on = λ e. more (second_of rows k) (h.on e);
+  back = λ some e. more (first_of rows k) (h.back some e);
+}
+
+-- Where no row leads on from what the tree holds, all rows are shut.
+pub spent_shut : (rows : List Row) (node : List Mark) (phase : Phase) (f : List ℕ) (r : List ℤ) (spots : List Spot) (tree : List Entry)
+    → IsSearched rows node phase f r spots tree
+    → ((j : ℕ) → j < length tree → (k : ℕ) → k < length rows → IsSpent rows f (seen spots) (product_of tree j) k)
+    → (k : ℕ) → k < length rows → ShutAt rows f (seen spots) k
+spent_shut rows node phase f r spots tree s all k l = record {
+  on = λ h. on (spot_at spots (first_of rows k)) refl h;
+  back = λ some h. back (spot_at spots (second_of rows k)) some refl h;
+}
+  where
+    on : (v : Spot) → spot_at spots (first_of rows k) ≡ v → is_seen v ≡ true → seen spots (second_of rows k) ≡ true
+    on Free e h = cc
+    on Kept e h = ap is_seen (s.kept_on k l e)
+    on (At p) e h = let t = s.there (first_of rows k) p e in (all p t.0 k l).on (sym t.1)
+
+    back : (v : Spot) → 0 < slice_index f k → spot_at spots (second_of rows k) ≡ v → is_seen v ≡ true → seen spots (first_of rows k) ≡ true
+    back Free some e h = cc
+    back Kept some e h = ap is_seen (s.kept_back k l some e)
+    back (At p) some e h = let t = s.there (second_of rows k) p e in (all p t.0 k l).back some (sym t.1)
 
 none_more : (n : ℕ) → sum_below n (λ i. 0) ≡ 0
 none_more zero = refl

@@ -13,4 +13,3 @@ pub mod ClosingLemmas
 pub mod ProblemLemmas
 pub mod CloserLemmas
 pub mod SizeLemmas
-pub mod WorkedLemmas

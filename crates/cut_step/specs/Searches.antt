@@ -66,6 +66,11 @@ pub record ShutAt (rows : List Row) (amounts : List ℕ) (s : ℕ → Bool) (k :
   pub on : s (first_of rows k) ≡ true → s (second_of rows k) ≡ true
   pub back : 0 < slice_index amounts k → s (second_of rows k) ≡ true → s (first_of rows k) ≡ true
 
+-- Over row k nothing more can be carried from product i: its other end is seen.
+pub record IsSpent (rows : List Row) (amounts : List ℕ) (s : ℕ → Bool) (i k : ℕ) : Type 0 where
+  pub on : first_of rows k ≡ i → s (second_of rows k) ≡ true
+  pub back : 0 < slice_index amounts k → second_of rows k ≡ i → s (first_of rows k) ≡ true
+
 -- From each root as much can be carried as its product gives.
 abbrev pub RootsGive : List Mark → Phase → List ℤ → List Entry → Type 0
 RootsGive node phase r tree = (j : ℕ) → j < length tree → before tree j ≡ j
@@ -106,14 +111,13 @@ pub record Grown (spots : List Spot) (tree : List Entry) (spots' : List Spot) (t
 abbrev pub NoneTakes : List Mark → Phase → List ℤ → List Entry → Type 0
 NoneTakes node phase r tree = (j : ℕ) → j < length tree → takes phase (mark_at node (product_of tree j)) (price_at r (product_of tree j)) ≡ false
 
--- Row k was tried: either its end that wasn't seen was added, or nothing changes and the row is shut.
+-- Row k was tried: it is shut, its end that wasn't seen having been added where that took something.
 pub record Tried (rows : List Row) (node : List Mark) (phase : Phase) (f : List ℕ) (r : List ℤ) (spots : List Spot) (tree : List Entry) (spots' : List Spot) (tree' : List Entry) (k : ℕ) (added : Bool) : Type 0 where
   pub searched : IsSearched rows node phase f r spots' tree'
   pub grown : Grown spots tree spots' tree'
   pub longer : added ≡ true → length tree' ≡ length tree + 1
-  pub spots_stay : added ≡ false → spots' ≡ spots
   pub tree_stays : added ≡ false → tree' ≡ tree
-  pub shut : added ≡ false → ShutAt rows f (seen spots') k
+  pub shut : ShutAt rows f (seen spots') k
 
 -- The place of an entry that takes something, or none takes.
 abbrev pub IsFound : List Mark → Phase → List ℤ → List Entry → Option ℕ → Type 0
@@ -125,15 +129,14 @@ pub record Looked (rows : List Row) (node : List Mark) (phase : Phase) (f : List
   pub searched : IsSearched rows node phase f r spots' tree'
   pub grown : Grown spots tree spots' tree'
   pub told : IsFound node phase r tree' found
-  pub spots_stay : length tree' ≡ length tree → spots' ≡ spots
-  pub shut : found ≡ None → length tree' ≡ length tree → ShutAt rows f (seen spots') k
+  pub shut : ShutAt rows f (seen spots') k
 
--- All rows were tried.
-pub record Passed (rows : List Row) (node : List Mark) (phase : Phase) (f : List ℕ) (r : List ℤ) (spots : List Spot) (tree : List Entry) (spots' : List Spot) (tree' : List Entry) (found : Option ℕ) : Type 0 where
+-- All rows at product i were tried.
+pub record Scanned (rows : List Row) (node : List Mark) (phase : Phase) (f : List ℕ) (r : List ℤ) (spots : List Spot) (tree : List Entry) (spots' : List Spot) (tree' : List Entry) (i : ℕ) (found : Option ℕ) : Type 0 where
   pub searched : IsSearched rows node phase f r spots' tree'
   pub grown : Grown spots tree spots' tree'
   pub told : IsFound node phase r tree' found
-  pub shut : found ≡ None → length tree' ≡ length tree → (k : ℕ) → k < length rows → ShutAt rows f (seen spots') k
+  pub spent : found ≡ None → (k : ℕ) → k < length rows → IsSpent rows f (seen spots') i k
 
 -- Product i was put into the tree as a root where it gives something.
 pub record Rooted (rows : List Row) (node : List Mark) (phase : Phase) (f : List ℕ) (r : List ℤ) (spots : List Spot) (tree : List Entry) (spots' : List Spot) (tree' : List Entry) (i : ℕ) : Type 0 where

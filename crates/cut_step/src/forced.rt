@@ -4,9 +4,11 @@ ghost use Rattle.cut_step.specs.Closures.{AreNamed, price_at};
 ghost use Rattle.cut_step.specs.Flows.{AreWithin};
 ghost use Rattle.cut_step.specs.Trees.{IsTree, Unused, product_of};
 ghost use Rattle.cut_step.specs.Searches.{IsFull, spot_at};
+ghost use Rattle.cut_step.specs.Adjacencies.{IsAdjacency};
 ghost use Rattle.cut_step.specs.Sizes.{CanPush, FitTogether};
 ghost use Rattle.cut_step.specs.Phases.{AreSmall, IsFlowing, IsBegun, IsImpossible, NoneBack, Supplied};
 
+use crate::adjacency::Adjacency;
 use crate::flow::Flow;
 use crate::phase::{Phase, lacking_at};
 use crate::push::push;
@@ -54,7 +56,14 @@ fn supply(rows: &[Row], node: &Node, tree: &[Entry], flow: &mut Flow)
 /// The first phase. All that products marked In require, one after the other, has to be offered. Where an Out product is
 /// among it, there is no closed set, and an amount of 2^108 on the path to it shows that. Else what is required is kept,
 /// and what Open products among it lack comes from the products that are In.
-pub fn force(rows: &[Row], node: &Node, flow: &mut Flow, reach: &mut Reach) -> bool
+pub fn force(
+    rows: &[Row],
+    adjacency: &Adjacency,
+    node: &Node,
+    flow: &mut Flow,
+    reach: &mut Reach,
+) -> bool
+    requires adjacency { IsAdjacency rows.now (length node.now) adjacency.now }
     requires small { AreSmall flow.old.left.items }
     requires lists { FitTogether rows.now node.now flow.old reach.old }
     requires zero { (k : ℕ) → slice_index flow.old.amounts.items k ≡ 0 }
@@ -66,7 +75,7 @@ pub fn force(rows: &[Row], node: &Node, flow: &mut Flow, reach: &mut Reach) -> b
         (IsImpossible rows.now node.now flow.old.left.items flow.new.left.items flow.new.amounts.items) }
     ensures lists { FitTogether rows.now node.now flow.new reach.new }
 {
-    match search(rows, node, Phase::Forced, flow, reach) {
+    match search(rows, adjacency, node, Phase::Forced, flow, reach) {
         Some(place) => {
             push(rows, &reach.tree, place, 1 << 108, flow);
             false

@@ -2,9 +2,11 @@ ghost use Rattle.std.specs.Prelude.{◌≡◌, ℕ, ◌<◌, ◌≤◌, ◌^◌,
 ghost use lib.IntN.{ℤ};
 ghost use Rattle.cut_step.specs.Closures.{AreNamed};
 ghost use Rattle.cut_step.specs.Flows.{AreWithin};
+ghost use Rattle.cut_step.specs.Adjacencies.{IsAdjacency};
 ghost use Rattle.cut_step.specs.Sizes.{FitTogether};
 ghost use Rattle.cut_step.specs.Phases.{IsUnderway, IsBegun, IsSolved};
 
+use crate::adjacency::Adjacency;
 use crate::flow::Flow;
 use crate::phase::{Phase, giving_at, lacking_at};
 use crate::push::{augment, portion};
@@ -62,7 +64,14 @@ fn pay(rows: &[Row], node: &Node, spots: &[Spot], flow: &mut Flow)
 /// The second phase: carries amounts along augmenting paths, from Open products with something left to those that lack
 /// something and to what is Out, until there is no such path. What the last search saw is then the near side of a least
 /// cut. The prices are those with which the first phase began.
-pub fn settle(rows: &[Row], node: &Node, flow: &mut Flow, reach: &mut Reach)
+pub fn settle(
+    rows: &[Row],
+    adjacency: &Adjacency,
+    node: &Node,
+    flow: &mut Flow,
+    reach: &mut Reach,
+)
+    requires adjacency { IsAdjacency rows.now (length node.now) adjacency.now }
     requires lists { FitTogether rows.now node.now flow.old reach.old }
     requires begun { (w : List ℤ) × IsBegun rows.now node.now w flow.old.left.items flow.old.amounts.items
         reach.old.spots.items reach.old.tree.items }
@@ -73,7 +82,7 @@ pub fn settle(rows: &[Row], node: &Node, flow: &mut Flow, reach: &mut Reach)
 {
     pay(rows, node, &reach.spots, flow);
     'paths: loop {
-        match search(rows, node, Phase::Funded, flow, reach) {
+        match search(rows, adjacency, node, Phase::Funded, flow, reach) {
             None => return,
             Some(place) => {
                 augment(rows, node, &reach.tree, place, flow);

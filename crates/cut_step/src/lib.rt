@@ -2,6 +2,7 @@
 //! multipliers that prove it greatest.
 #![tactic(auto)]
 
+mod adjacency;
 mod flow;
 mod forced;
 mod funded;
@@ -12,7 +13,5 @@ mod rows;
 mod search;
 mod solve;
 mod step;
-#[cfg(test)]
-mod tests;
 
 pub use step::ClosureStep;

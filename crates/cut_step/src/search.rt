@@ -1,10 +1,12 @@
 ghost use Rattle.std.specs.Prelude.{◌≡◌, ℕ, ◌<◌, ◌-◌, true, length};
 ghost use Rattle.offer_model.specs.Nodes.{mark_at};
 ghost use Rattle.cut_step.specs.Closures.{price_at};
+ghost use Rattle.cut_step.specs.Adjacencies.{IsAdjacency};
 ghost use Rattle.cut_step.specs.Sizes.{FitTogether};
 ghost use Rattle.cut_step.specs.Trees.{product_of};
-ghost use Rattle.cut_step.specs.Searches.{IsSearched, Grown, NoneTakes, Tried, Looked, Passed, Rooted, Ended, gives, takes, seen};
+ghost use Rattle.cut_step.specs.Searches.{IsSearched, Grown, NoneTakes, Tried, Looked, Scanned, Rooted, Ended, gives, takes, seen};
 
+use crate::adjacency::Adjacency;
 use crate::flow::Flow;
 use crate::phase::{Phase, giving_at, taking_at};
 use crate::push::least;
@@ -97,19 +99,33 @@ fn look(
     None
 }
 
-/// Tries each row.
-fn pass(rows: &[Row], node: &Node, phase: Phase, flow: &Flow, reach: &mut Reach) -> Option<usize>
+/// Tries each row at the product of the entry at a place.
+fn scan(
+    rows: &[Row],
+    adjacency: &Adjacency,
+    node: &Node,
+    phase: Phase,
+    flow: &Flow,
+    place: usize,
+    reach: &mut Reach,
+) -> Option<usize>
     requires searched { IsSearched rows.now node.now phase flow.now.amounts.items flow.now.left.items
         reach.old.spots.items reach.old.tree.items }
     requires none { NoneTakes node.now phase flow.now.left.items reach.old.tree.items }
+    requires place { place < length reach.old.tree.items }
+    requires adjacency { IsAdjacency rows.now (length node.now) adjacency.now }
     requires lists { FitTogether rows.now node.now flow.now reach.old }
-    ensures passed { Passed rows.now node.now phase flow.now.amounts.items flow.now.left.items
-        reach.old.spots.items reach.old.tree.items reach.new.spots.items reach.new.tree.items result }
+    // What was tried.
+    ensures scanned { Scanned rows.now node.now phase flow.now.amounts.items flow.now.left.items
+        reach.old.spots.items reach.old.tree.items reach.new.spots.items reach.new.tree.items
+        (product_of reach.old.tree.items place) result }
     ensures lists { FitTogether rows.now node.now flow.now reach.new }
 {
-    for k in 0..rows.len() {
+    let i = reach.entry(place).product;
+    for position in adjacency.start(i)..adjacency.start(i + 1) {
+        let k = adjacency.row(position);
         match look(rows, node, phase, flow, k, reach) {
-            Some(place) => return Some(place),
+            Some(found) => return Some(found),
             None => {}
         }
     }
@@ -160,10 +176,11 @@ fn roots(rows: &[Row], node: &Node, phase: Phase, flow: &Flow, reach: &mut Reach
     }
 }
 
-/// Searches from all products that give something, in passes over all rows, until a product is reached that takes
-/// something, whose place it gives, or a pass reaches nothing more.
+/// Searches breadth first from all products that give something, until a product is reached that takes something, whose
+/// place it gives, or the rows at all that was reached have been tried. So the path to what it gives is a shortest one.
 pub fn search(
     rows: &[Row],
+    adjacency: &Adjacency,
     node: &Node,
     phase: Phase,
     flow: &Flow,
@@ -172,20 +189,21 @@ pub fn search(
     requires searched { IsSearched rows.now node.now phase flow.now.amounts.items flow.now.left.items
         reach.old.spots.items reach.old.tree.items }
     requires none { NoneTakes node.now phase flow.now.left.items reach.old.tree.items }
+    requires adjacency { IsAdjacency rows.now (length node.now) adjacency.now }
     requires lists { FitTogether rows.now node.now flow.now reach.old }
+    // What was reached.
     ensures ended { Ended rows.now node.now phase flow.now.amounts.items flow.now.left.items
         reach.old.spots.items reach.old.tree.items reach.new.spots.items reach.new.tree.items result }
     ensures lists { FitTogether rows.now node.now flow.now reach.new }
 {
     roots(rows, node, phase, flow, reach);
-    'passes: loop {
-        let before = reach.tree.len();
-        match pass(rows, node, phase, flow, reach) {
-            Some(place) => return Some(place),
+    let mut place = 0;
+    while place < reach.tree.len() {
+        match scan(rows, adjacency, node, phase, flow, place, reach) {
+            Some(found) => return Some(found),
             None => {}
         }
-        if reach.tree.len() == before {
-            return None;
-        }
+        place += 1;
     }
+    None
 }

@@ -1,9 +1,11 @@
 ghost use Rattle.std.specs.Prelude.{◌≡◌, Bool, length, IfOk, MatchOption};
 ghost use Rattle.offer_model.specs.Assortments.{offers};
 ghost use Rattle.cut_step.specs.Closures.{HasNoClosure, IsGreatestClosure};
+ghost use Rattle.cut_step.specs.Adjacencies.{IsAdjacency};
 ghost use Rattle.cut_step.specs.Sizes.{FitTogether};
 ghost use Rattle.cut_step.specs.Phases.{AreSmall, IsDone};
 
+use crate::adjacency::Adjacency;
 use crate::flow::Flow;
 use crate::forced::force;
 use crate::funded::settle;
@@ -14,7 +16,15 @@ use offer_model::{Assortment, NoMemory, Node, Wide};
 use std::alloc::Global;
 
 /// Both phases. Says whether a closed set agrees with the node: then what was reached is one of greatest total.
-fn solve(rows: &[Row], weights: &Weights, node: &Node, flow: &mut Flow, reach: &mut Reach) -> bool
+fn solve(
+    rows: &[Row],
+    adjacency: &Adjacency,
+    weights: &Weights,
+    node: &Node,
+    flow: &mut Flow,
+    reach: &mut Reach,
+) -> bool
+    requires adjacency { IsAdjacency rows.now (length node.now) adjacency.now }
     requires small { AreSmall weights.now.items }
     requires weights { length weights.now.items ≡ length node.now }
     requires lists { FitTogether rows.now node.now flow.old reach.old }
@@ -24,10 +34,10 @@ fn solve(rows: &[Row], weights: &Weights, node: &Node, flow: &mut Flow, reach: &
 {
     flow.start(weights);
     reach.start();
-    if !force(rows, node, flow, reach) {
+    if !force(rows, adjacency, node, flow, reach) {
         return false;
     }
-    settle(rows, node, flow, reach);
+    settle(rows, adjacency, node, flow, reach);
     true
 }
 
@@ -35,11 +45,13 @@ fn solve(rows: &[Row], weights: &Weights, node: &Node, flow: &mut Flow, reach: &
 pub fn greatest(
     alloc: Global,
     rows: &[Row],
+    adjacency: &Adjacency,
     weights: &Weights,
     node: &Node,
     flow: &mut Flow,
     reach: &mut Reach,
 ) -> Result<Option<Assortment>, NoMemory>
+    requires adjacency { IsAdjacency rows.now (length node.now) adjacency.now }
     requires small { AreSmall weights.now.items }
     requires weights { length weights.now.items ≡ length node.now }
     requires lists { FitTogether rows.now node.now flow.old reach.old }
@@ -47,7 +59,7 @@ pub fn greatest(
         (λ x. (length x ≡ length node.now) × IsGreatestClosure rows.now node.now weights.now.items (offers x))) }
     ensures lists { FitTogether rows.now node.now flow.new reach.new }
 {
-    if !solve(rows, weights, node, flow, reach) {
+    if !solve(rows, adjacency, weights, node, flow, reach) {
         return Ok(None);
     }
     let x = reach.assortment(alloc)?;
@@ -70,11 +82,13 @@ fn numbers_of(alloc: Global, amounts: &[u128]) -> Result<Wide, NoMemory>
 pub fn multipliers(
     alloc: Global,
     rows: &[Row],
+    adjacency: &Adjacency,
     weights: &Weights,
     node: &Node,
     flow: &mut Flow,
     reach: &mut Reach,
 ) -> Result<Wide, NoMemory>
+    requires adjacency { IsAdjacency rows.now (length node.now) adjacency.now }
     requires small { AreSmall weights.now.items }
     requires weights { length weights.now.items ≡ length node.now }
     requires lists { FitTogether rows.now node.now flow.old reach.old }
@@ -82,6 +96,6 @@ pub fn multipliers(
         × IsDone rows.now node.now weights.now.items flow.new.left.items numbers.items reach.new.spots.items possible) }
     ensures lists { FitTogether rows.now node.now flow.new reach.new }
 {
-    let _possible = solve(rows, weights, node, flow, reach);
+    let _possible = solve(rows, adjacency, weights, node, flow, reach);
     numbers_of(alloc, &flow.amounts)
 }

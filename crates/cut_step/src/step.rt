@@ -1,6 +1,7 @@
 ghost use Rattle.std.specs.Prelude.{◌≡◌, ◌≤◌, length, vec_capacity, IfOk};
 ghost use Rattle.limit_rules.specs.Kinds.{kind_of};
 
+use crate::adjacency::Adjacency;
 use crate::flow::Flow;
 use crate::reach::{Reach, Spot};
 use crate::rows::{Row, rows_of};
@@ -11,12 +12,13 @@ use offer_model::{Assortment, NoMemory, Node, Problem};
 use std::alloc::Global;
 use std::sync::ledger::Ledger;
 
-/// The step and the closer for problems whose limits are all requirements. It has made the problem's rows, and keeps the
-/// lists that each call works in.
+/// The step and the closer for problems whose limits are all requirements. It has made the problem's rows and the
+/// network of them, and keeps the lists that each call works in.
 #[derive(Drop)]
 pub struct ClosureStep {
     alloc: Global,
     rows: Vec<Row>,
+    adjacency: Adjacency,
     flow: Flow,
     reach: Reach,
 }
@@ -48,11 +50,13 @@ impl ClosureStep {
     {
         let rows = rows_of(alloc, p.limits())?;
         let products = p.products().len();
+        let adjacency = Adjacency::of(alloc, &rows, products)?;
         let flow = flow_of(alloc, rows.len(), products)?;
         let reach = reach_of(alloc, products)?;
         Ok(ClosureStep {
             alloc,
             rows,
+            adjacency,
             flow,
             reach,
         })
@@ -75,6 +79,7 @@ impl<L: Ledger> Step<L> for ClosureStep {
         greatest(
             self.alloc,
             &self.rows,
+            &self.adjacency,
             weights,
             node,
             &mut self.flow,
@@ -95,6 +100,7 @@ impl Closer for ClosureStep {
         let numbers = multipliers(
             self.alloc,
             &self.rows,
+            &self.adjacency,
             weights,
             node,
             &mut self.flow,

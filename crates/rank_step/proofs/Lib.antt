@@ -5,4 +5,3 @@ pub mod RoomLemmas
 pub mod CandidateLemmas
 pub mod GreedyLemmas
 pub mod CutoffLemmas
-pub mod WorkedLemmas

@@ -5,4 +5,3 @@ pub mod Candidates
 pub mod Greedy
 pub mod Multipliers
 pub mod Fits
-pub mod WorkedCaps

@@ -8,8 +8,6 @@ mod greedy;
 mod multipliers;
 mod places;
 mod rooms;
-#[cfg(test)]
-mod tests;
 
 pub use caps::CapsStep;
 pub use free::FreeStep;

@@ -6,5 +6,3 @@ pub mod LadderRungLemmas
 pub mod LadderNumberLemmas
 pub mod LadderClimbLemmas
 pub mod LadderAnswerLemmas
-pub mod ShelfWorkedLemmas
-pub mod LadderWorkedLemmas

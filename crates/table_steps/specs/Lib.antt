@@ -4,5 +4,3 @@ pub mod LadderRungs
 pub mod LadderNumbers
 pub mod LadderChoices
 pub mod LadderFits
-pub mod WorkedShelf
-pub mod WorkedLadders
