@@ -32,7 +32,7 @@ use Rattle.cut_step.specs.Sizes.{FitTogether}
 use Rattle.cut_step.specs.Phases.{IsImpossible, IsSolved, IsDone}
 use Rattle.cut_step.proofs.CertificateLemmas.{certified_bound}
 use Rattle.cut_step.proofs.ClosingLemmas.{solved_greatest, greatest_same}
-use Rattle.cut_step.proofs.ProblemLemmas.{rows_named, worth_total, closure_greatest, none_feasible, amounts_fit, bound_left}
+use Rattle.cut_step.proofs.ProblemLemmas.{rows_named, worth_total, closure_greatest, none_feasible, amounts_fit, bound_excess}
 use Rattle.cut_step.proofs.TotalLemmas.{sum_same}
 
 -- The assortment of what was reached.
@@ -47,7 +47,7 @@ solved_top p node w r us spots c ln lw s =
     let e : length node ≡ length w.items = ln ∙ sym lw in
     let great = greatest_same (rows_of p.limits) node w.items (seen spots) (offers x) (word_offers spots) (solved_greatest (rows_of p.limits) node w.items r us spots e s) in
     let long : length x ≡ product_count p = length-map spots is_seen ∙ s.spots_each ∙ lw in
-    let whole = bound_left p node w r us c lw s.rows_each s.certified.balanced in
+    let whole = bound_excess p node w r us c lw s.rows_each s.certified.balanced in
     let full = certified_bound (rows_of p.limits) node w.items r us (seen spots) e s.certified in
     let same = sum_same (length w.items) (λ i. cond (offers x i) (price_at w.items i) (pos 0)) (λ i. cond (seen spots i) (price_at w.items i) (pos 0))
     (λ i l. ap (λ (b : Bool). cond b (price_at w.items i) (pos 0)) (word_offers spots i)) in
@@ -57,7 +57,7 @@ solved_top p node w r us spots c ln lw s =
 impossible_top : (p : ProblemData) (node : List Mark) (w : WeightsData) (r : List ℤ) (us : List ℕ) → list_all is_requires p.limits ≡ true
     → AreWeights p w → IsImpossible (rows_of p.limits) node w.items r us → IsTop p (prices_of w) node (multipliers_bound p node us (prices_of w))
 impossible_top p node w r us c ws h =
-    let whole = bound_left p node w r us c ws.each h.rows_each h.balanced in
+    let whole = bound_excess p node w r us c ws.each h.rows_each h.balanced in
     inr (none_feasible p node c h.none, omega (arith, ints, whole, h.below, ws.constant.0))
 
 amounts_small : (us : List ℕ) → ((k : ℕ) → slice_index us k ≤ 2 ^ 108) → All (λ u. u ≤ number_bound) us
@@ -95,6 +95,6 @@ ready_fits s p node rows r e is = record {
       (subst (λ (n : ℕ). AreNamed (rows_of p.limits) n) (sym r.spots) (rows_named p (Closure-all p.limits r.kind) r.problem.limits.named));
   each = r.amounts ∙ ap length (sym is);
   marks = e ∙ sym r.spots;
-  left = r.left ∙ sym r.spots;
+  excess = r.excess ∙ sym r.spots;
   room = let room = r.room in let spots = r.spots in omega (arith, room, spots);
 }

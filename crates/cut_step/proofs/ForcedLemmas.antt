@@ -16,11 +16,11 @@ use Rattle.cut_step.specs.declared.reach.Spot.TheVariants.{Free, Kept, At}
 use Rattle.cut_step.specs.Closures.{first_of, second_of, IsClosure, price_at}
 use Rattle.cut_step.specs.Flows.{source_of, target_of}
 use Rattle.cut_step.specs.Trees.{entry_at, product_of, before, over, cap, IsTree, Unused, Pushed}
-use Rattle.cut_step.specs.Searches.{spot_at, is_seen, seen, gives, takes, lacks, IsSearched, Ended}
-use Rattle.cut_step.specs.Phases.{IsKeeping, Falls, NoneBack, Supplied}
+use Rattle.cut_step.specs.Searches.{spot_at, is_seen, seen, supply_of, takes, deficit_of, IsSearched, Ended}
+use Rattle.cut_step.specs.Phases.{IsKeeping, Falls, NoneBack, Covered}
 use Rattle.cut_step.specs.Phases.Falls.{from_in}
 use Rattle.cut_step.proofs.FallLemmas.{at_cases, in_open, falls, flows_on}
-use Rattle.cut_step.proofs.StartLemmas.{gives_in, gives_from_in, spot_cases, used_ends}
+use Rattle.cut_step.proofs.StartLemmas.{supply_in, supply_from_in, spot_cases, used_ends}
 
 -- Without amounts no place of the tree leads back.
 pub none_back : (rows : List Row) (node : List Mark) (phase : Phase) (f : List ℕ) (r : List ℤ) (spots : List Spot) (tree : List Entry)
@@ -31,6 +31,7 @@ none_back rows node phase f r spots tree s z = λ j l b. forward (entry_at tree 
     forward false f c h s e = refl
     forward true f c h s e = let x = h refl in absurd (omega arith)
 
+-- A tree without a row that leads back is a tree whatever the amounts.
 pub tree_forward : (rows : List Row) (n : ℕ) (f f' : List ℕ) (tree : List Entry) → IsTree rows n f tree → NoneBack tree → IsTree rows n f' tree
 tree_forward rows n f f' tree t none = record {
   below = t.below;
@@ -59,14 +60,15 @@ pub full_caps : (rows : List Row) (node : List Mark) (f : List ℕ) (r : List �
     → IsSearched rows node Forced f r spots tree → NoneBack tree → (j : ℕ) → j < length tree → 2 ^ 109 ≤ cap tree j
 full_caps rows node f r spots tree s none = down (λ x. 2 ^ 109 ≤ x.cap) rows (length spots) f tree s.well
     (λ j l b. let c = s.root j l b in let some = s.some j l in
-    let i = gives_in (mark_at node (product_of tree j)) (price_at r (product_of tree j)) (subst (λ (x : ℕ). 0 < x) c some) in
-    let full : gives Forced (mark_at node (product_of tree j)) (price_at r (product_of tree j)) ≡ 2 ^ 109 = ap (λ (m : Mark). gives Forced m (price_at r (product_of tree j))) i in
+    let i = supply_in (mark_at node (product_of tree j)) (price_at r (product_of tree j)) (subst (λ (x : ℕ). 0 < x) c some) in
+    let full : supply_of Forced (mark_at node (product_of tree j)) (price_at r (product_of tree j)) ≡ 2 ^ 109 = ap (λ (m : Mark). supply_of Forced m (price_at r (product_of tree j))) i in
     omega (arith, c, full))
     (λ j l b h. let s = s.well.step j l b in let k = s.holds (none j l b) in omega (arith, k, h))
 
+-- The roots of the first phase are In.
 pub roots_in : (rows : List Row) (node : List Mark) (f : List ℕ) (r : List ℤ) (spots : List Spot) (tree : List Entry)
     → IsSearched rows node Forced f r spots tree → (j : ℕ) → j < length tree → before tree j ≡ j → mark_at node (product_of tree j) ≡ In
-roots_in rows node f r spots tree s j l b = gives_in (mark_at node (product_of tree j)) (price_at r (product_of tree j)) (subst (λ (x : ℕ). 0 < x) (s.root j l b) (s.some j l))
+roots_in rows node f r spots tree s j l b = supply_in (mark_at node (product_of tree j)) (price_at r (product_of tree j)) (subst (λ (x : ℕ). 0 < x) (s.root j l b) (s.some j l))
 
 -- A feasible completion offers all that In leads to.
 pub reached : (rows : List Row) (node : List Mark) (f : List ℕ) (r : List ℤ) (spots : List Spot) (tree : List Entry) (y : ℕ → Bool)
@@ -82,15 +84,19 @@ reached rows node f r spots tree y s none e h = down (λ x. y x.product ≡ true
     agrees_in : (m : Mark) (b : Bool) → m ≡ In → Agrees m b → b ≡ true
     agrees_in m b e a = subst (λ (m : Mark). Agrees m b) e a
 
+-- No truth value is both.
 pub true_false : (b : Bool) → b ≡ true → b ≡ false → ⊥
 true_false b p q = cc
 
+-- What is free stands at no place.
 pub free_at : (s : Spot) (p : ℕ) → s ≡ Free → s ≡ At p → ⊥
 free_at s p a b = cc
 
+-- What is free isn't kept.
 pub free_kept : (s : Spot) → s ≡ Free → s ≡ Kept → ⊥
 free_kept s a b = cc
 
+-- What is Out takes in either phase.
 pub takes_out : (phase : Phase) (m : Mark) (z : ℤ) → m ≡ Out → takes phase m z ≡ true
 takes_out phase m z e = rw e refl
 
@@ -103,7 +109,7 @@ pub at_end : (rows : List Row) (node : List Mark) (f f' : List ℕ) (r r' : List
     → ((i : ℕ) → seen spots i ≡ true → spot_at spots' i ≡ Kept) → ((i : ℕ) → spot_at spots' i ≡ Kept → seen spots i ≡ true) → ((i p : ℕ) → spot_at spots' i ≡ At p → ⊥)
     → IsKeeping rows node r' f' spots'
 at_end rows node f f' r r' spots0 spots spots' tree0 tree e len0 free has unused len keep kept none = record {
-  in_kept = λ i l m. keep i (e.roots i (omega arith) (gives_from_in (mark_at node i) (price_at r i) m));
+  in_kept = λ i l m. keep i (e.roots i (omega arith) (supply_from_in (mark_at node i) (price_at r i) m));
   out_not = λ i k m. let p = place i (kept i k) in
       true_false (takes Forced (mark_at node i) (price_at r i)) (takes_out Forced (mark_at node i) (price_at r i) m)
       (subst (λ (x : ℕ). takes Forced (mark_at node x) (price_at r x) ≡ false) p.2 (e.told p.0 p.1));
@@ -127,38 +133,40 @@ at_end rows node f f' r r' spots0 spots spots' tree0 tree e len0 free has unused
 
 -- ---- One supply.
 
-pub lacks_some : (m : Mark) (z : ℤ) (d : ℕ) → d ≡ lacks m z → 0 < d → (m ≡ Open) × ((z +ℤ pos d) ≡ pos 0)
-lacks_some In z d e h = absurd (omega arith)
-lacks_some Out z d e h = absurd (omega arith)
-lacks_some Open (pos n) d e h = absurd (omega arith)
-lacks_some Open (negsuc n) d e h = (refl, omega (arith, ints, e))
+-- A product with a deficit is Open, and the deficit makes its excess 0.
+pub deficit_some : (m : Mark) (z : ℤ) (d : ℕ) → d ≡ deficit_of m z → 0 < d → (m ≡ Open) × ((z +ℤ pos d) ≡ pos 0)
+deficit_some In z d e h = absurd (omega arith)
+deficit_some Out z d e h = absurd (omega arith)
+deficit_some Open (pos n) d e h = absurd (omega arith)
+deficit_some Open (negsuc n) d e h = (refl, omega (arith, ints, e))
 
-lacks_none : (m : Mark) (z : ℤ) → lacks m z ≡ 0 → m ≡ Open → pos 0 ≤ℤ z
-lacks_none In z e h = cc
-lacks_none Out z e h = cc
-lacks_none Open (pos n) e h = omega (arith, ints)
-lacks_none Open (negsuc n) e h = absurd (omega arith)
+deficit_none : (m : Mark) (z : ℤ) → deficit_of m z ≡ 0 → m ≡ Open → pos 0 ≤ℤ z
+deficit_none In z e h = cc
+deficit_none Out z e h = cc
+deficit_none Open (pos n) e h = omega (arith, ints)
+deficit_none Open (negsuc n) e h = absurd (omega arith)
 
-pub supplied_none : (rows : List Row) (node : List Mark) (r : List ℤ) (f : List ℕ) (tree : List Entry) (place : ℕ) → lacks (mark_at node (product_of tree place)) (price_at r (product_of tree place)) ≡ 0
-    → Supplied rows node r f tree place r f
+-- Where nothing is lacking, nothing has to be carried.
+pub supplied_none : (rows : List Row) (node : List Mark) (r : List ℤ) (f : List ℕ) (tree : List Entry) (place : ℕ) → deficit_of (mark_at node (product_of tree place)) (price_at r (product_of tree place)) ≡ 0
+    → Covered rows node r f tree place r f
 supplied_none rows node r f tree place e = record {
   flowing = λ w g. g;
-  here = lacks_none (mark_at node (product_of tree place)) (price_at r (product_of tree place)) e;
+  here = deficit_none (mark_at node (product_of tree place)) (price_at r (product_of tree place)) e;
   has = λ i m h. h;
   unused = λ k u. refl;
 }
 
 -- An In product gives what was lacking.
-pub supplied_some : (rows : List Row) (node : List Mark) (r r' : List ℤ) (f f' : List ℕ) (tree : List Entry) (place top d : ℕ)
-    → IsTree rows (length r) f tree → place < length tree → d ≡ lacks (mark_at node (product_of tree place)) (price_at r (product_of tree place)) → 0 < d → mark_at node (product_of tree top) ≡ In
-    → Pushed rows tree place d f r top f' r' → Supplied rows node r f tree place r' f'
-supplied_some rows node r r' f f' tree place top d t l e some ms p =
+pub covered_some : (rows : List Row) (node : List Mark) (r r' : List ℤ) (f f' : List ℕ) (tree : List Entry) (place top d : ℕ)
+    → IsTree rows (length r) f tree → place < length tree → d ≡ deficit_of (mark_at node (product_of tree place)) (price_at r (product_of tree place)) → 0 < d → mark_at node (product_of tree top) ≡ In
+    → Pushed rows tree place d f r top f' r' → Covered rows node r f tree place r' f'
+covered_some rows node r r' f f' tree place top d t l e some ms p =
     let lt : top < length tree = omega (arith, p.above) in
-    let lack = lacks_some (mark_at node (product_of tree place)) (price_at r (product_of tree place)) d e some in
+    let lack = deficit_some (mark_at node (product_of tree place)) (price_at r (product_of tree place)) d e some in
     let fall : Falls node r (product_of tree top) (product_of tree place) d = from_in ms lack.0 (omega (arith, ints, lack.1)) in
     record {
       flowing = λ w g.
-          let a = t.named top lt in let b = t.named place l in let same = g.left_each in
+          let a = t.named top lt in let b = t.named place l in let same = g.excess_each in
           flows_on rows node w r r' f f' tree place top d g p
           (falls node (length w) r r' (product_of tree top) (product_of tree place) d (omega arith) (omega arith) some p.carried fall);
       here = λ m. elim (rises (product_of tree place) m) as (λ v. pos 0 ≤ℤ price_at r' (product_of tree place))

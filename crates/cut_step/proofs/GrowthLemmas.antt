@@ -18,9 +18,10 @@ use Rattle.cut_step.specs.declared.reach.Spot.TheVariants.{Free, Kept, At}
 use Rattle.cut_step.specs.Closures.{first_of, second_of, AreNamed, price_at}
 use Rattle.cut_step.specs.Flows.{at, source_of, target_of}
 use Rattle.cut_step.specs.Trees.{entry_at, product_of, before, over, cap, Leads, IsTree}
-use Rattle.cut_step.specs.Searches.{spot_at, is_seen, seen, unseen, gives, takes, ShutAt, IsSpent, IsSearched, Grown, NoneTakes, Tried, Looked, Rooted}
+use Rattle.cut_step.specs.Searches.{spot_at, is_seen, seen, unseen, supply_of, takes, ShutAt, IsSpent, IsSearched, Grown, NoneTakes, Tried, Looked, Rooted}
 use Rattle.cut_step.proofs.TotalLemmas.{sum_less}
 
+-- What holds below n and at n holds below n + 1.
 pub by_last : (P : ℕ → Type 0) (n m : ℕ) → m ≡ n + 1 → ((j : ℕ) → j < n → P j) → P n → (j : ℕ) → j < m → P j
 by_last P n m e old new j l = below_more P n old new j (omega arith)
 
@@ -36,10 +37,11 @@ fewer_here i c a b h g = elim (eqb_tells i c) as (λ v. cond a 0 1 + cond (eqb i
   | inr f ↦ let same = g f.1 in rw (f.0, same) (omega arith)
 ]
 
+-- An entry that may be put at the end of a tree.
 pub record Joins (rows : List Row) (node : List Mark) (phase : Phase) (f : List ℕ) (r : List ℤ) (tree : List Entry) (e : Entry) : Type 0 where
   pub below : e.from ≤ length tree
   pub some : 0 < e.cap
-  pub root : e.from ≡ length tree → e.cap ≡ gives phase (mark_at node e.product) (price_at r e.product)
+  pub root : e.from ≡ length tree → e.cap ≡ supply_of phase (mark_at node e.product) (price_at r e.product)
   pub step : e.from < length tree → Leads rows f e (entry_at tree e.from)
 
 module _ (rows : List Row) (node : List Mark) (phase : Phase) (f : List ℕ) (r : List ℤ) (spots spots' : List Spot) (tree tree' : List Entry) (e : Entry)
@@ -142,7 +144,7 @@ module _ (rows : List Row) (node : List Mark) (phase : Phase) (f : List ℕ) (r 
     fewer = let n = grown_grown.count in let b = s.fewer in
         let same = ap (λ (n : ℕ). unseen n spots') spots_each in
         omega (arith, n, b, same, spots_each);
-    root = each (λ i x. x.from ≡ i → x.cap ≡ gives phase (mark_at node x.product) (price_at r x.product)) s.root j.root;
+    root = each (λ i x. x.from ≡ i → x.cap ≡ supply_of phase (mark_at node x.product) (price_at r x.product)) s.root j.root;
     some = each (λ i x. 0 < x.cap) s.some j.some;
     kept_on = λ k l h. kept_same (second_of rows k) (s.kept_on k l (kept_was (first_of rows k) h));
     kept_back = λ k l some h. kept_same (first_of rows k) (s.kept_back k l some (kept_was (second_of rows k) h));
@@ -160,6 +162,7 @@ grown rows node phase f r spots spots' tree tree' e s inside free j tree_is spot
   ap (λ (x : Entry). x.product) (new rows node phase f r spots spots' tree tree' e s inside free j tree_is spots_is),
 )
 
+-- A search that hasn't moved has grown by nothing.
 pub grown_none : (spots : List Spot) (tree : List Entry) → Grown spots tree spots tree
 grown_none spots tree = record { each = refl; longer = omega arith; front = λ j l. refl; more = λ i h. h; kept = λ i h. h; was_kept = λ i h. h; count = omega arith }
 
@@ -204,18 +207,18 @@ tried_over rows node phase f r spots spots' tree tree' k p c b s names l at free
     let source = g.1.more (source_of rows k b) (ap is_seen at) in
     record { searched = g.0; grown = g.1; longer = λ q. g.2; tree_stays = λ q. cc; shut = both_shut rows f (seen spots') k b source target }
 
-gives_none : (phase : Phase) (m : Mark) (z : ℤ) → 0 < gives phase m z → takes phase m z ≡ false
-gives_none Forced In z h = refl
-gives_none Forced Out z h = absurd (omega arith)
-gives_none Forced Open z h = absurd (omega arith)
-gives_none Funded Open (pos n) h = refl
-gives_none Funded Open (negsuc n) h = absurd (omega arith)
-gives_none Funded In z h = absurd (omega arith)
-gives_none Funded Out z h = absurd (omega arith)
+supply_none : (phase : Phase) (m : Mark) (z : ℤ) → 0 < supply_of phase m z → takes phase m z ≡ false
+supply_none Forced In z h = refl
+supply_none Forced Out z h = absurd (omega arith)
+supply_none Forced Open z h = absurd (omega arith)
+supply_none Funded Open (pos n) h = refl
+supply_none Funded Open (negsuc n) h = absurd (omega arith)
+supply_none Funded In z h = absurd (omega arith)
+supply_none Funded Out z h = absurd (omega arith)
 
 -- A product that gives something is added as a root.
 pub rooted : (rows : List Row) (node : List Mark) (phase : Phase) (f : List ℕ) (r : List ℤ) (spots spots' : List Spot) (tree tree' : List Entry) (i c : ℕ)
-    → IsSearched rows node phase f r spots tree → i < length spots → spot_at spots i ≡ Free → c ≡ gives phase (mark_at node i) (price_at r i) → 0 < c
+    → IsSearched rows node phase f r spots tree → i < length spots → spot_at spots i ≡ Free → c ≡ supply_of phase (mark_at node i) (price_at r i) → 0 < c
     → tree' ≡ tree ++ record { product = i; row = 0; from = length tree; back = false; cap = c } ∷ [] → spots' ≡ set spots i (At (length tree))
     → Rooted rows node phase f r spots tree spots' tree' i
 rooted rows node phase f r spots spots' tree tree' i c s inside free is some tree_is spots_is =
@@ -226,7 +229,7 @@ rooted rows node phase f r spots spots' tree tree' i c s inside free is some tre
       searched = g.0;
       grown = g.1;
       none = λ was. each rows node phase f r spots spots' tree tree' e s inside free joins tree_is spots_is
-          (λ j x. takes phase (mark_at node x.product) (price_at r x.product) ≡ false) was (gives_none phase (mark_at node i) (price_at r i) (subst (λ (x : ℕ). 0 < x) is some));
+          (λ j x. takes phase (mark_at node x.product) (price_at r x.product) ≡ false) was (supply_none phase (mark_at node i) (price_at r i) (subst (λ (x : ℕ). 0 < x) is some));
       here = λ q. ap is_seen (on rows node phase f r spots spots' tree tree' e s inside free joins tree_is spots_is);
     }
 

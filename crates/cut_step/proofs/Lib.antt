@@ -8,7 +8,7 @@ pub mod StartLemmas
 pub mod ForcedLemmas
 pub mod PathLemmas
 pub mod FundedLemmas
-pub mod PayLemmas
+pub mod SaturationLemmas
 pub mod ClosingLemmas
 pub mod ProblemLemmas
 pub mod CloserLemmas

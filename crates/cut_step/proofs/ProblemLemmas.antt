@@ -89,6 +89,7 @@ closure_greatest p node w x c ln lw lx g = record {
       omega (arith, ints, le, a, b);
 }
 
+-- Where no closed set agrees with the node, the node has no feasible completion.
 pub none_feasible : (p : ProblemData) (node : List Mark) → list_all is_requires p.limits ≡ true → HasNoClosure (rows_of p.limits) node → HasNone p node
 none_feasible p node c none y f n = none (offers y) (feasible_closed p node y c f n)
 
@@ -150,10 +151,10 @@ amounts_fit p us c e = record {
 }
 
 -- The bound of the amounts as multipliers is the bound at what is left.
-pub bound_left : (p : ProblemData) (node : List Mark) (w : WeightsData) (r : List ℤ) (us : List ℕ) → list_all is_requires p.limits ≡ true
+pub bound_excess : (p : ProblemData) (node : List Mark) (w : WeightsData) (r : List ℤ) (us : List ℕ) → list_all is_requires p.limits ≡ true
     → length w.items ≡ product_count p → length us ≡ length (rows_of p.limits) → IsBalanced (rows_of p.limits) w.items r us
     → multipliers_bound p node us (prices_of w) ≡ w.constant +ℤ bound node (length w.items) (price_at r)
-bound_left p node w r us c lw e b =
+bound_excess p node w r us c lw e b =
     let rows : List Row = rows_of p.limits in
     let row : (k : ℕ) → k < length us → priced_limit_at p k ≡ Requires (first_of rows k) (second_of rows k) = λ k l.
     priced_row p c k (subst (λ (n : ℕ). k < n) e l) in

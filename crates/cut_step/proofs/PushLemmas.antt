@@ -10,9 +10,11 @@ use Rattle.cut_step.specs.Flows.{IsBalanced, at, Carried, source_of, target_of}
 use Rattle.cut_step.specs.Trees.{entry_at, product_of, before, over, cap, IsTree, Pushed}
 use Rattle.cut_step.proofs.MoveLemmas.{balanced_moved}
 
+-- From a product to itself nothing is carried.
 pub carried_none : (r : List ℤ) (a d : ℕ) → Carried r r a a d
 carried_none r a d = record { length_is = refl; is = λ i. omega (arith, ints) }
 
+-- What is carried in two steps is carried from end to end.
 pub carried_more : (r0 r r' : List ℤ) (a b c d : ℕ) → Carried r0 r b c d → Carried r r' a b d → Carried r0 r' a c d
 carried_more r0 r r' a b c d h g = record { length_is = g.length_is ∙ h.length_is; is = λ i. let x = h.is i in let y = g.is i in omega (arith, ints, x, y) }
 

@@ -8,14 +8,15 @@ use Rattle.cut_step.specs.Sizes.{FitTogether}
 use Rattle.cut_step.specs.declared.flow.Flow.{Flow}
 use Rattle.cut_step.specs.declared.reach.Reach.{Reach}
 
+-- Lists of the same sizes fit together too.
 pub fit_on : (rows : List Row) (node : List Mark) (flow flow' : Flow) (reach reach' : Reach) → FitTogether rows node flow reach
-    → length flow'.amounts.items ≡ length flow.amounts.items → length flow'.left.items ≡ length flow.left.items
+    → length flow'.amounts.items ≡ length flow.amounts.items → length flow'.excess.items ≡ length flow.excess.items
     → length reach'.spots.items ≡ length reach.spots.items → vec_capacity reach'.tree ≡ vec_capacity reach.tree
     → FitTogether rows node flow' reach'
 fit_on rows node flow flow' reach reach' h a l s t = record {
   names = subst (λ (n : ℕ). AreNamed rows n) (sym s) h.names;
   each = a ∙ h.each;
   marks = h.marks ∙ sym s;
-  left = l ∙ h.left ∙ sym s;
+  excess = l ∙ h.excess ∙ sym s;
   room = let room = h.room in omega (arith, room, s, t);
 }

@@ -16,25 +16,29 @@ use Rattle.cut_step.specs.declared.reach.Spot.TheVariants.{Free, Kept, At}
 use Rattle.cut_step.specs.Closures.{first_of, second_of, price_at}
 use Rattle.cut_step.specs.Flows.{moved, source_of, target_of}
 use Rattle.cut_step.specs.Trees.{entry_at, before, over}
-use Rattle.cut_step.specs.Searches.{spot_at, seen, unseen, gives, IsSearched}
-use Rattle.cut_step.specs.Phases.{left, all_left, AreSmall, IsFlowing}
+use Rattle.cut_step.specs.Searches.{spot_at, seen, unseen, supply_of, IsSearched}
+use Rattle.cut_step.specs.Phases.{imbalance, imbalance_of, AreSmall, IsFlowing}
 use Rattle.cut_step.proofs.FallLemmas.{abs_bounds}
 use Rattle.cut_step.proofs.TotalLemmas.{sum_zero, sum_small}
 
-pub gives_open : (m : Mark) (z : ℤ) → 0 < gives Funded m z → (m ≡ Open) × (pos (gives Funded m z) ≤ℤ z)
-gives_open Open (pos n) h = (refl, omega (arith, ints))
-gives_open Open (negsuc n) h = absurd (omega arith)
-gives_open In z h = absurd (omega arith)
-gives_open Out z h = absurd (omega arith)
+-- What gives in the second phase is Open, and gives no more than its excess.
+pub supply_open : (m : Mark) (z : ℤ) → 0 < supply_of Funded m z → (m ≡ Open) × (pos (supply_of Funded m z) ≤ℤ z)
+supply_open Open (pos n) h = (refl, omega (arith, ints))
+supply_open Open (negsuc n) h = absurd (omega arith)
+supply_open In z h = absurd (omega arith)
+supply_open Out z h = absurd (omega arith)
 
-pub gives_in : (m : Mark) (z : ℤ) → 0 < gives Forced m z → m ≡ In
-gives_in In z h = refl
-gives_in Out z h = absurd (omega arith)
-gives_in Open z h = absurd (omega arith)
+-- What gives in the first phase is In.
+pub supply_in : (m : Mark) (z : ℤ) → 0 < supply_of Forced m z → m ≡ In
+supply_in In z h = refl
+supply_in Out z h = absurd (omega arith)
+supply_in Open z h = absurd (omega arith)
 
-pub gives_from_in : (m : Mark) (z : ℤ) → m ≡ In → 0 < gives Forced m z
-gives_from_in m z e = rw e (omega arith)
+-- What is In gives in the first phase.
+pub supply_from_in : (m : Mark) (z : ℤ) → m ≡ In → 0 < supply_of Forced m z
+supply_from_in m z e = rw e (omega arith)
 
+-- A spot is free, kept, or a place of the tree.
 pub spot_cases : (s : Spot) → (s ≡ Free) ⊎ (s ≡ Kept) ⊎ ((p : ℕ) × (s ≡ At p))
 spot_cases Free = inl refl
 spot_cases Kept = inr (inl refl)
@@ -54,18 +58,20 @@ used_ends rows node phase f r spots tree j s l b =
     both true x y a z = ((j, z), (before tree j, a))
     both false x y a z = ((before tree j, a), (j, z))
 
-pub left_le : (m : Mark) (z : ℤ) → left m z ≤ unsigned_abs z
-left_le In z = omega arith
-left_le Out z = omega arith
-left_le Open z = omega arith
+-- A product's imbalance is at most the size of its excess.
+pub imbalance_le : (m : Mark) (z : ℤ) → imbalance m z ≤ unsigned_abs z
+imbalance_le In z = omega arith
+imbalance_le Out z = omega arith
+imbalance_le Open z = omega arith
 
+-- So many products as a problem may have bring at most as many times as much.
 pub few_times : (n b : ℕ) → n ≤ 256 → n * b ≤ 256 * b
 few_times n b h = grind arith
 
-all_small : (node : List Mark) (w : List ℤ) → AreSmall w → all_left node (length w) w ≤ 2 ^ 106
+all_small : (node : List Mark) (w : List ℤ) → AreSmall w → imbalance_of node (length w) w ≤ 2 ^ 106
 all_small node w s =
-    let sum = sum_small (length w) (2 ^ 98) (λ i. left (mark_at node i) (price_at w i))
-    (λ i l. let a = left_le (mark_at node i) (price_at w i) in let b = s.each i in omega (arith, a, b)) in
+    let sum = sum_small (length w) (2 ^ 98) (λ i. imbalance (mark_at node i) (price_at w i))
+    (λ i l. let a = imbalance_le (mark_at node i) (price_at w i) in let b = s.each i in omega (arith, a, b)) in
     let few = few_times (length w) (2 ^ 98) s.few in
     omega (arith, sum, few)
 
@@ -86,7 +92,7 @@ flowing_start rows node w f s e z =
     record {
       balanced = record { is = λ y. let n = none_moved rows f y z in omega (arith, ints, n) };
       rows_each = e;
-      left_each = refl;
+      excess_each = refl;
       amount = λ k. let a = z k in omega (arith, a, most);
       low = λ i. let b = abs_bounds (price_at w i) in let l = s.each i in omega (arith, ints, b.1, l, most);
       high = λ i. let b = abs_bounds (price_at w i) in let l = s.each i in omega (arith, ints, b.0, l, most);

@@ -8,6 +8,7 @@ use Rattle.offer_model.specs.Assortments.{sum_below}
 use Rattle.offer_model.specs.Prices.{int_sum_below}
 use Rattle.cut_step.specs.Flows.{at}
 
+-- Equal terms have equal sums.
 pub sum_same : (n : ℕ) (f g : ℕ → ℤ) → ((i : ℕ) → i < n → f i ≡ g i) → int_sum_below n f ≡ int_sum_below n g
 sum_same zero f g h = refl
 sum_same (suc n) f g h =
@@ -15,6 +16,7 @@ sum_same (suc n) f g h =
     let here = h n (omega arith) in
     cc
 
+-- A sum of zeros is 0.
 pub sum_zero : (n : ℕ) (f : ℕ → ℤ) → ((i : ℕ) → i < n → f i ≡ pos 0) → int_sum_below n f ≡ pos 0
 sum_zero zero f h = refl
 sum_zero (suc n) f h =
@@ -22,6 +24,7 @@ sum_zero (suc n) f h =
     let here = h n (omega arith) in
     rw (before, here) refl
 
+-- A sum of terms that aren't below 0 isn't below 0.
 pub sum_none : (n : ℕ) (f : ℕ → ℤ) → ((i : ℕ) → i < n → pos 0 ≤ℤ f i) → pos 0 ≤ℤ int_sum_below n f
 sum_none zero f h = omega (arith, ints)
 sum_none (suc n) f h =
@@ -29,6 +32,7 @@ sum_none (suc n) f h =
     let here = h n (omega arith) in
     omega (arith, ints)
 
+-- The sum of sums is the sum of both.
 pub sum_adds : (n : ℕ) (f g h : ℕ → ℤ) → ((i : ℕ) → i < n → f i ≡ g i +ℤ h i) → int_sum_below n f ≡ int_sum_below n g +ℤ int_sum_below n h
 sum_adds zero f g h e = refl
 sum_adds (suc n) f g h e =
@@ -36,12 +40,15 @@ sum_adds (suc n) f g h e =
     let here = e n (omega arith) in
     omega (arith, ints, before, here)
 
+-- At its own product the number stands.
 pub at_same : (i : ℕ) (z : ℤ) → at i i z ≡ z
 at_same i z = grind (arith, nat_tests)
 
+-- At another product 0 stands.
 pub at_other : (i a : ℕ) (z : ℤ) → i ≢ a → at i a z ≡ pos 0
 at_other i a z h = grind (arith, nat_tests)
 
+-- The sum of a number at one product is the number.
 pub sum_at : (n a : ℕ) (z : ℤ) → a < n → int_sum_below n (λ i. at i a z) ≡ z
 sum_at zero a z h = absurd (omega arith)
 sum_at (suc n) a z h = elim (eqb_tells n a) as (λ v. int_sum_below n (λ i. at i a z) +ℤ at n a z ≡ z) [
@@ -61,6 +68,7 @@ sum_none_less (suc n) g' g c d h =
     let here = h n (omega arith) in
     omega arith
 
+-- A sum that falls by d at one place, and rises nowhere, falls by d.
 pub sum_less : (n : ℕ) (g' g : ℕ → ℕ) (c d : ℕ) → c < n → ((i : ℕ) → i < n → g' i + cond (eqb i c) d 0 ≤ g i) → sum_below n g' + d ≤ sum_below n g
 sum_less zero g' g c d l h = absurd (omega arith)
 sum_less (suc n) g' g c d l h = elim (eqb_tells n c) as (λ v. sum_below n g' + g' n + d ≤ sum_below n g + g n) [
@@ -72,6 +80,7 @@ sum_less (suc n) g' g c d l h = elim (eqb_tells n c) as (λ v. sum_below n g' + 
       omega (arith, rest, here)
 ]
 
+-- A sum of n terms below b is below n times b by n at least.
 pub sum_small : (n b : ℕ) (g : ℕ → ℕ) → ((i : ℕ) → i < n → g i < b) → sum_below n g + n ≤ n * b
 sum_small zero b g h = omega arith
 sum_small (suc n) b g h =
@@ -79,10 +88,12 @@ sum_small (suc n) b g h =
     let here = h n (omega arith) in
     omega (arith, rest, here)
 
+-- The sum of natural numbers, as an integer.
 pub pos_sum : (n : ℕ) (g : ℕ → ℕ) → int_sum_below n (λ i. pos (g i)) ≡ pos (sum_below n g)
 pos_sum zero g = refl
 pos_sum (suc n) g = let before = pos_sum n g in omega (arith, ints, before)
 
+-- The sum over one product is its term.
 pub sum_pick : (n i : ℕ) (g : ℕ → ℤ) → i < n → int_sum_below n (λ j. cond (eqb i j) (g j) (pos 0)) ≡ g i
 sum_pick zero i g l = absurd (omega arith)
 sum_pick (suc n) i g l = elim (eqb_tells i n) as (λ v. int_sum_below n (λ j. cond (eqb i j) (g j) (pos 0)) +ℤ cond (eqb i n) (g n) (pos 0) ≡ g i) [

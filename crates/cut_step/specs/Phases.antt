@@ -17,32 +17,32 @@ use Rattle.cut_step.specs.Flows.{IsBalanced, IsCertified, bound}
 use Rattle.cut_step.specs.Trees.{Unused, entry_at, product_of, before}
 use Rattle.cut_step.specs.Searches.{spot_at, seen}
 
--- How far an Open product is from 0.
-abbrev pub left : Mark → ℤ → ℕ
-left In z = 0
-left Out z = 0
-left Open z = unsigned_abs z
+-- How far the excess of an Open product is from 0.
+abbrev pub imbalance : Mark → ℤ → ℕ
+imbalance In z = 0
+imbalance Out z = 0
+imbalance Open z = unsigned_abs z
 
--- How far all Open products are from 0.
-abbrev pub all_left : List Mark → ℕ → List ℤ → ℕ
-all_left node n r = sum_below n (λ i. left (mark_at node i) (price_at r i))
+-- How far all Open products together are from 0.
+abbrev pub imbalance_of : List Mark → ℕ → List ℤ → ℕ
+imbalance_of node n r = sum_below n (λ i. imbalance (mark_at node i) (price_at r i))
 
 -- Prices as few and as small as those of a problem at a revenue are.
 pub record AreSmall (prices : List ℤ) : Type 0 where
   pub few : length prices ≤ MOST_PRODUCTS
   pub each : (i : ℕ) → unsigned_abs (price_at prices i) < price_bound
 
--- Amounts f, and what is left r of the prices w. An amount can grow only as what is left falls, so each stays a number of
+-- Amounts f, and excesses r over the prices w. An amount can grow only as the imbalance falls, so each stays a number of
 -- a certificate's line, and no sum leaves its range.
 pub record IsFlowing (rows : List Row) (node : List Mark) (w : List ℤ) (r : List ℤ) (f : List ℕ) : Type 0 where
   pub balanced : IsBalanced rows w r f
   pub rows_each : length f ≡ length rows
-  pub left_each : length r ≡ length w
-  pub amount : (k : ℕ) → slice_index f k + all_left node (length w) r ≤ 2 ^ 108
-  pub low : (i : ℕ) → pos (all_left node (length w) r) ≤ℤ (price_at r i +ℤ pos (2 ^ 109))
-  pub high : (i : ℕ) → (price_at r i +ℤ pos (all_left node (length w) r)) ≤ℤ pos (2 ^ 109)
+  pub excess_each : length r ≡ length w
+  pub amount : (k : ℕ) → slice_index f k + imbalance_of node (length w) r ≤ 2 ^ 108
+  pub low : (i : ℕ) → pos (imbalance_of node (length w) r) ≤ℤ (price_at r i +ℤ pos (2 ^ 109))
+  pub high : (i : ℕ) → (price_at r i +ℤ pos (imbalance_of node (length w) r)) ≤ℤ pos (2 ^ 109)
 
--- What is kept for good: all that In needs, nothing Out, and no Open product that lacks something. No row and no amount
+-- What is kept for good: all that In needs, nothing Out, and no Open product with a deficit. No row and no amount
 -- leads out of it.
 pub record IsKeeping (rows : List Row) (node : List Mark) (r : List ℤ) (f : List ℕ) (spots : List Spot) : Type 0 where
   pub in_kept : (i : ℕ) → i < length spots → mark_at node i ≡ In → spot_at spots i ≡ Kept
@@ -63,14 +63,14 @@ pub record IsBegun (rows : List Row) (node : List Mark) (w r : List ℤ) (f : Li
   pub empty : tree ≡ []
   pub each : length spots ≡ length w
 
--- An amount went from the root of a tree to an entry of it: less is left, and nothing else changes.
+-- An amount went from the root of a tree to an entry of it: the imbalance is less, and nothing else changes.
 pub record Augmented (rows : List Row) (node : List Mark) (w r : List ℤ) (f : List ℕ) (tree : List Entry) (r' : List ℤ) (f' : List ℕ) : Type 0 where
   pub flowing : IsFlowing rows node w r' f'
-  pub less : all_left node (length w) r' < all_left node (length w) r
+  pub less : imbalance_of node (length w) r' < imbalance_of node (length w) r
   pub unused : (k : ℕ) → Unused tree k → slice_index f' k ≡ slice_index f k
   pub others : (i : ℕ) → ((j : ℕ) → j < length tree → product_of tree j ≢ i) → price_at r' i ≡ price_at r i
 
--- The amounts d that product s can give and product t can take, so that what is left falls by d.
+-- The amounts d that product s can give and product t can take, so that the imbalance falls by d.
 pub data Falls (node : List Mark) (r : List ℤ) (s t d : ℕ) : Type 0 where
   from_in : mark_at node s ≡ In → mark_at node t ≡ Open → (price_at r t +ℤ pos d) ≤ℤ pos 0 → Falls node r s t d
   from_open : mark_at node s ≡ Open → pos d ≤ℤ price_at r s → mark_at node t ≡ Open → (price_at r t +ℤ pos d) ≤ℤ pos 0 → Falls node r s t d
@@ -80,14 +80,14 @@ pub data Falls (node : List Mark) (r : List ℤ) (s t d : ℕ) : Type 0 where
 abbrev pub NoneBack : List Entry → Type 0
 NoneBack tree = (j : ℕ) → j < length tree → before tree j < j → (entry_at tree j).back ≡ false
 
--- An Open product was given what it lacked, from what is In.
-pub record Supplied (rows : List Row) (node : List Mark) (r : List ℤ) (f : List ℕ) (tree : List Entry) (place : ℕ) (r' : List ℤ) (f' : List ℕ) : Type 0 where
+-- The deficit of an Open product was covered from what is In.
+pub record Covered (rows : List Row) (node : List Mark) (r : List ℤ) (f : List ℕ) (tree : List Entry) (place : ℕ) (r' : List ℤ) (f' : List ℕ) : Type 0 where
   pub flowing : (w : List ℤ) → IsFlowing rows node w r f → IsFlowing rows node w r' f'
   pub here : mark_at node (product_of tree place) ≡ Open → pos 0 ≤ℤ price_at r' (product_of tree place)
   pub has : (i : ℕ) → mark_at node i ≡ Open → pos 0 ≤ℤ price_at r i → pos 0 ≤ℤ price_at r' i
   pub unused : (k : ℕ) → Unused tree k → slice_index f' k ≡ slice_index f k
 
--- No closed set agrees with the node, and the bound at what is left shows it, whatever the constant.
+-- No closed set agrees with the node, and the bound at the excesses shows it, whatever the constant.
 pub record IsImpossible (rows : List Row) (node : List Mark) (w r : List ℤ) (f : List ℕ) : Type 0 where
   pub none : HasNoClosure rows node
   pub balanced : IsBalanced rows w r f

@@ -15,6 +15,6 @@ pub record IsReady (s : ClosureStep) (p : ProblemData) : Type 0 where
   pub rows : s.rows.items ≡ rows_of p.limits
   pub adjacency : IsAdjacency s.rows.items (product_count p) s.adjacency
   pub amounts : length s.flow.amounts.items ≡ length s.rows.items
-  pub left : length s.flow.left.items ≡ product_count p
+  pub excess : length s.flow.excess.items ≡ product_count p
   pub spots : length s.reach.spots.items ≡ product_count p
   pub room : product_count p ≤ vec_capacity s.reach.tree

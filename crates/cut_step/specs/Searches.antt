@@ -31,35 +31,33 @@ seen spots i = is_seen (spot_at spots i)
 abbrev pub unseen : ℕ → List Spot → ℕ
 unseen n spots = sum_below n (λ i. cond (seen spots i) 0 1)
 
--- What a product can give, with z left of its price: first what is In gives without end, then what is Open gives what it
--- has left.
-abbrev pub gives : Phase → Mark → ℤ → ℕ
-gives Forced In z = 2 ^ 109
-gives Forced Out z = 0
-gives Forced Open z = 0
-gives Funded Open (pos n) = n
-gives Funded Open (negsuc n) = 0
-gives Funded In z = 0
-gives Funded Out z = 0
+-- What a product of excess z can give: first what is In gives without end, then what is Open gives its excess.
+abbrev pub supply_of : Phase → Mark → ℤ → ℕ
+supply_of Forced In z = 2 ^ 109
+supply_of Forced Out z = 0
+supply_of Forced Open z = 0
+supply_of Funded Open (pos n) = n
+supply_of Funded Open (negsuc n) = 0
+supply_of Funded In z = 0
+supply_of Funded Out z = 0
 
 abbrev pub is_below : ℤ → Bool
 is_below (pos n) = false
 is_below (negsuc n) = true
 
--- Whether a product takes something: what is Out does without end, and in the second phase what is Open and has less
--- than 0 left.
+-- Whether a product takes something: what is Out does without end, and in the second phase what is Open with a deficit.
 abbrev pub takes : Phase → Mark → ℤ → Bool
 takes phase In z = false
 takes phase Out z = true
 takes Forced Open z = false
 takes Funded Open z = is_below z
 
--- What an Open product lacks.
-abbrev pub lacks : Mark → ℤ → ℕ
-lacks Open (pos n) = 0
-lacks Open (negsuc n) = n + 1
-lacks In z = 0
-lacks Out z = 0
+-- The deficit of an Open product.
+abbrev pub deficit_of : Mark → ℤ → ℕ
+deficit_of Open (pos n) = 0
+deficit_of Open (negsuc n) = n + 1
+deficit_of In z = 0
+deficit_of Out z = 0
 
 -- Nothing can be carried over row k from what is seen to what isn't.
 pub record ShutAt (rows : List Row) (amounts : List ℕ) (s : ℕ → Bool) (k : ℕ) : Type 0 where
@@ -74,7 +72,7 @@ pub record IsSpent (rows : List Row) (amounts : List ℕ) (s : ℕ → Bool) (i 
 -- From each root as much can be carried as its product gives.
 abbrev pub RootsGive : List Mark → Phase → List ℤ → List Entry → Type 0
 RootsGive node phase r tree = (j : ℕ) → j < length tree → before tree j ≡ j
-    → cap tree j ≡ gives phase (mark_at node (product_of tree j)) (price_at r (product_of tree j))
+    → cap tree j ≡ supply_of phase (mark_at node (product_of tree j)) (price_at r (product_of tree j))
 
 -- The product of the entry at place p takes something.
 abbrev pub TakesAt : List Mark → Phase → List ℤ → List Entry → ℕ → Type 0
@@ -143,13 +141,13 @@ pub record Rooted (rows : List Row) (node : List Mark) (phase : Phase) (f : List
   pub searched : IsSearched rows node phase f r spots' tree'
   pub grown : Grown spots tree spots' tree'
   pub none : NoneTakes node phase r tree → NoneTakes node phase r tree'
-  pub here : 0 < gives phase (mark_at node i) (price_at r i) → seen spots' i ≡ true
+  pub here : 0 < supply_of phase (mark_at node i) (price_at r i) → seen spots' i ≡ true
 
 -- The search came to a product that takes something, or shut all rows.
 pub record Ended (rows : List Row) (node : List Mark) (phase : Phase) (f : List ℕ) (r : List ℤ) (spots : List Spot) (tree : List Entry) (spots' : List Spot) (tree' : List Entry) (found : Option ℕ) : Type 0 where
   pub searched : IsSearched rows node phase f r spots' tree'
   pub grown : Grown spots tree spots' tree'
-  pub roots : (i : ℕ) → i < length spots → 0 < gives phase (mark_at node i) (price_at r i) → seen spots' i ≡ true
+  pub roots : (i : ℕ) → i < length spots → 0 < supply_of phase (mark_at node i) (price_at r i) → seen spots' i ≡ true
   pub told : IsFound node phase r tree' found
   pub shut : found ≡ None → (k : ℕ) → k < length rows → ShutAt rows f (seen spots') k
 

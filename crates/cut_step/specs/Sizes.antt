@@ -15,13 +15,13 @@ pub record FitTogether (rows : List Row) (node : List Mark) (flow : Flow) (reach
   pub names : AreNamed rows (length reach.spots.items)
   pub each : length flow.amounts.items ≡ length rows
   pub marks : length node ≡ length reach.spots.items
-  pub left : length flow.left.items ≡ length reach.spots.items
+  pub excess : length flow.excess.items ≡ length reach.spots.items
   pub room : length reach.spots.items ≤ vec_capacity reach.tree
 
 -- Amounts can be carried down the tree: it is one, the lists have their sizes, and no sum leaves the range of its numbers.
 pub record CanPush (rows : List Row) (tree : List Entry) (flow : Flow) : Type 0 where
-  pub well : IsTree rows (length flow.left.items) flow.amounts.items tree
-  pub names : AreNamed rows (length flow.left.items)
+  pub well : IsTree rows (length flow.excess.items) flow.amounts.items tree
+  pub names : AreNamed rows (length flow.excess.items)
   pub each : length flow.amounts.items ≡ length rows
-  pub within : AreWithin flow.left.items (2 ^ 119)
+  pub within : AreWithin flow.excess.items (2 ^ 119)
   pub room : (k : ℕ) → slice_index flow.amounts.items k ≤ 2 ^ 109

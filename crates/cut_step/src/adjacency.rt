@@ -1,4 +1,4 @@
-// The rows at each product, so that a search goes over no others.
+//! The rows at each product, so that a search goes over no others.
 ghost use Rattle.std.specs.Prelude.{◌≡◌, ◌<◌, length, slice_index, IfOk};
 ghost use Rattle.cut_step.specs.Adjacencies.{AddsRows, IsAdjacency};
 

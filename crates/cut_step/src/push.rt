@@ -1,3 +1,4 @@
+//! An amount that is carried along an augmenting path.
 ghost use Rattle.std.specs.Prelude.{◌≡◌, ℕ, ◌<◌, ◌≤◌, ◌^◌, List, length};
 ghost use lib.IntN.{ℤ};
 ghost use Rattle.cut_step.specs.Trees.{Pushed, before, cap};
@@ -6,7 +7,7 @@ ghost use Rattle.cut_step.specs.Sizes.{CanPush};
 ghost use Rattle.cut_step.specs.Phases.{IsFlowing, Augmented};
 
 use crate::flow::Flow;
-use crate::phase::{Phase, lacking_at};
+use crate::phase::{Phase, deficit_at};
 use crate::reach::Entry;
 use crate::rows::Row;
 use offer_model::Node;
@@ -18,8 +19,8 @@ pub fn push(rows: &[Row], tree: &[Entry], start: usize, d: u128, flow: &mut Flow
     requires small { d ≤ 2 ^ 109 }
     requires enough { d ≤ cap tree.now start }
     ensures root { before tree.now result ≡ result }
-    ensures pushed { Pushed rows.now tree.now start d flow.old.amounts.items flow.old.left.items
-        result flow.new.amounts.items flow.new.left.items }
+    ensures pushed { Pushed rows.now tree.now start d flow.old.amounts.items flow.old.excess.items
+        result flow.new.amounts.items flow.new.excess.items }
 {
     let mut at = start;
     while tree[at].from < at {
@@ -39,37 +40,37 @@ pub fn least(a: u128, b: u128) -> u128
     if a < b { a } else { b }
 }
 
-/// As much as is there, and no more than is lacking where something is.
-pub fn portion(cap: u128, lacking: u128) -> u128
+/// As much as the path holds, and no more than the deficit where there is one.
+pub fn portion(cap: u128, deficit: u128) -> u128
     requires { 0 < cap }
     ensures some { 0 < result }
     ensures cap { result ≤ cap }
     ensures small { result ≤ 2 ^ 108 }
-    ensures need { 0 < lacking → result ≤ lacking }
+    ensures need { 0 < deficit → result ≤ deficit }
 {
     let most = least(cap, 1 << 108);
-    if lacking == 0 {
+    if deficit == 0 {
         most
     } else {
-        least(most, lacking)
+        least(most, deficit)
     }
 }
 
 /// Carries an amount along an augmenting path: from the root to the entry that takes something.
 pub fn augment(rows: &[Row], node: &Node, tree: &[Entry], place: usize, flow: &mut Flow)
     requires push { CanPush rows.now tree.now flow.old }
-    requires roots { RootsGive node.now Phase.Funded flow.old.left.items tree.now }
+    requires roots { RootsGive node.now Phase.Funded flow.old.excess.items tree.now }
     requires some { (j : ℕ) → j < length tree.now → 0 < cap tree.now j }
-    requires node { length node.now ≡ length flow.old.left.items }
+    requires node { length node.now ≡ length flow.old.excess.items }
     requires place { place < length tree.now }
-    requires takes { TakesAt node.now Phase.Funded flow.old.left.items tree.now place }
-    ensures augmented { (w : List ℤ) → IsFlowing rows.now node.now w flow.old.left.items flow.old.amounts.items
-        → Augmented rows.now node.now w flow.old.left.items flow.old.amounts.items tree.now
-        flow.new.left.items flow.new.amounts.items }
+    requires takes { TakesAt node.now Phase.Funded flow.old.excess.items tree.now place }
+    ensures augmented { (w : List ℤ) → IsFlowing rows.now node.now w flow.old.excess.items flow.old.amounts.items
+        → Augmented rows.now node.now w flow.old.excess.items flow.old.amounts.items tree.now
+        flow.new.excess.items flow.new.amounts.items }
     ensures each { length flow.new.amounts.items ≡ length flow.old.amounts.items }
-    ensures left { length flow.new.left.items ≡ length flow.old.left.items }
+    ensures excess { length flow.new.excess.items ≡ length flow.old.excess.items }
 {
     let entry = tree[place];
-    let need = lacking_at(node, flow, entry.product);
+    let need = deficit_at(node, flow, entry.product);
     push(rows, tree, place, portion(entry.cap, need), flow);
 }

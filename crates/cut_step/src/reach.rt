@@ -1,3 +1,4 @@
+//! What a search has reached: its tree, and where each product stands.
 ghost use Rattle.std.specs.Prelude.{◌≡◌, ℕ, ◌<◌, ◌++◌, ◌∷◌, [], true, length, slice_set, vec_len, vec_capacity, IfOk};
 ghost use Rattle.offer_model.specs.Assortments.{offers};
 ghost use Rattle.cut_step.specs.Trees.{entry_at};

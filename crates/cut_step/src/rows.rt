@@ -1,3 +1,4 @@
+//! The requirements as rows of the network.
 ghost use Rattle.std.specs.Prelude.{◌≡◌, IfOk};
 ghost use Rattle.cut_step.specs.Closures.{rows_of};
 

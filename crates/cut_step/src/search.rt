@@ -1,14 +1,15 @@
+//! The search for a shortest augmenting path, breadth first over the residual network.
 ghost use Rattle.std.specs.Prelude.{◌≡◌, ℕ, ◌<◌, ◌-◌, true, length};
 ghost use Rattle.offer_model.specs.Nodes.{mark_at};
 ghost use Rattle.cut_step.specs.Closures.{price_at};
 ghost use Rattle.cut_step.specs.Adjacencies.{IsAdjacency};
 ghost use Rattle.cut_step.specs.Sizes.{FitTogether};
 ghost use Rattle.cut_step.specs.Trees.{product_of};
-ghost use Rattle.cut_step.specs.Searches.{IsSearched, Grown, NoneTakes, Tried, Looked, Scanned, Rooted, Ended, gives, takes, seen};
+ghost use Rattle.cut_step.specs.Searches.{IsSearched, Grown, NoneTakes, Tried, Looked, Scanned, Rooted, Ended, supply_of, takes, seen};
 
 use crate::adjacency::Adjacency;
 use crate::flow::Flow;
-use crate::phase::{Phase, giving_at, taking_at};
+use crate::phase::{Phase, supply_at, taking_at};
 use crate::push::least;
 use crate::reach::{Entry, Reach, Spot};
 use crate::rows::Row;
@@ -23,11 +24,11 @@ fn try_row(
     k: usize,
     reach: &mut Reach,
 ) -> bool
-    requires searched { IsSearched rows.now node.now phase flow.now.amounts.items flow.now.left.items
+    requires searched { IsSearched rows.now node.now phase flow.now.amounts.items flow.now.excess.items
         reach.old.spots.items reach.old.tree.items }
     requires row { k < length rows.now }
     requires lists { FitTogether rows.now node.now flow.now reach.old }
-    ensures tried { Tried rows.now node.now phase flow.now.amounts.items flow.now.left.items
+    ensures tried { Tried rows.now node.now phase flow.now.amounts.items flow.now.excess.items
         reach.old.spots.items reach.old.tree.items reach.new.spots.items reach.new.tree.items k result }
     ensures lists { FitTogether rows.now node.now flow.now reach.new }
 {
@@ -64,9 +65,9 @@ fn try_row(
 fn last_takes(node: &Node, phase: Phase, flow: &Flow, reach: &Reach) -> bool
     requires some { 0 < length reach.now.tree.items }
     requires node { product_of reach.now.tree.items (length reach.now.tree.items - 1) < length node.now }
-    requires each { length flow.now.left.items ≡ length node.now }
+    requires each { length flow.now.excess.items ≡ length node.now }
     ensures { let i = product_of reach.now.tree.items (length reach.now.tree.items - 1) in
-        result ≡ takes phase (mark_at node.now i) (price_at flow.now.left.items i) }
+        result ≡ takes phase (mark_at node.now i) (price_at flow.now.excess.items i) }
 {
     let i = reach.entry(reach.tree.len() - 1).product;
     taking_at(phase, node, flow, i)
@@ -81,12 +82,12 @@ fn look(
     k: usize,
     reach: &mut Reach,
 ) -> Option<usize>
-    requires searched { IsSearched rows.now node.now phase flow.now.amounts.items flow.now.left.items
+    requires searched { IsSearched rows.now node.now phase flow.now.amounts.items flow.now.excess.items
         reach.old.spots.items reach.old.tree.items }
-    requires none { NoneTakes node.now phase flow.now.left.items reach.old.tree.items }
+    requires none { NoneTakes node.now phase flow.now.excess.items reach.old.tree.items }
     requires row { k < length rows.now }
     requires lists { FitTogether rows.now node.now flow.now reach.old }
-    ensures looked { Looked rows.now node.now phase flow.now.amounts.items flow.now.left.items
+    ensures looked { Looked rows.now node.now phase flow.now.amounts.items flow.now.excess.items
         reach.old.spots.items reach.old.tree.items reach.new.spots.items reach.new.tree.items k result }
     ensures lists { FitTogether rows.now node.now flow.now reach.new }
 {
@@ -109,14 +110,14 @@ fn scan(
     place: usize,
     reach: &mut Reach,
 ) -> Option<usize>
-    requires searched { IsSearched rows.now node.now phase flow.now.amounts.items flow.now.left.items
+    requires searched { IsSearched rows.now node.now phase flow.now.amounts.items flow.now.excess.items
         reach.old.spots.items reach.old.tree.items }
-    requires none { NoneTakes node.now phase flow.now.left.items reach.old.tree.items }
+    requires none { NoneTakes node.now phase flow.now.excess.items reach.old.tree.items }
     requires place { place < length reach.old.tree.items }
     requires adjacency { IsAdjacency rows.now (length node.now) adjacency.now }
     requires lists { FitTogether rows.now node.now flow.now reach.old }
     // What was tried.
-    ensures scanned { Scanned rows.now node.now phase flow.now.amounts.items flow.now.left.items
+    ensures scanned { Scanned rows.now node.now phase flow.now.amounts.items flow.now.excess.items
         reach.old.spots.items reach.old.tree.items reach.new.spots.items reach.new.tree.items
         (product_of reach.old.tree.items place) result }
     ensures lists { FitTogether rows.now node.now flow.now reach.new }
@@ -134,15 +135,15 @@ fn scan(
 
 /// Puts product `i` into the tree where it gives something.
 fn try_root(rows: &[Row], node: &Node, phase: Phase, flow: &Flow, i: usize, reach: &mut Reach)
-    requires searched { IsSearched rows.now node.now phase flow.now.amounts.items flow.now.left.items
+    requires searched { IsSearched rows.now node.now phase flow.now.amounts.items flow.now.excess.items
         reach.old.spots.items reach.old.tree.items }
     requires inside { i < length reach.old.spots.items }
     requires lists { FitTogether rows.now node.now flow.now reach.old }
-    ensures rooted { Rooted rows.now node.now phase flow.now.amounts.items flow.now.left.items
+    ensures rooted { Rooted rows.now node.now phase flow.now.amounts.items flow.now.excess.items
         reach.old.spots.items reach.old.tree.items reach.new.spots.items reach.new.tree.items i }
     ensures lists { FitTogether rows.now node.now flow.now reach.new }
 {
-    let cap = giving_at(phase, node, flow, i);
+    let cap = supply_at(phase, node, flow, i);
     if cap > 0 {
         if let Spot::Free = reach.spot(i) {
             let from = reach.tree.len();
@@ -159,15 +160,15 @@ fn try_root(rows: &[Row], node: &Node, phase: Phase, flow: &Flow, i: usize, reac
 
 /// Puts all products into the tree that give something.
 fn roots(rows: &[Row], node: &Node, phase: Phase, flow: &Flow, reach: &mut Reach)
-    requires searched { IsSearched rows.now node.now phase flow.now.amounts.items flow.now.left.items
+    requires searched { IsSearched rows.now node.now phase flow.now.amounts.items flow.now.excess.items
         reach.old.spots.items reach.old.tree.items }
-    requires none { NoneTakes node.now phase flow.now.left.items reach.old.tree.items }
+    requires none { NoneTakes node.now phase flow.now.excess.items reach.old.tree.items }
     requires lists { FitTogether rows.now node.now flow.now reach.old }
-    ensures searched { IsSearched rows.now node.now phase flow.now.amounts.items flow.now.left.items
+    ensures searched { IsSearched rows.now node.now phase flow.now.amounts.items flow.now.excess.items
         reach.new.spots.items reach.new.tree.items }
     ensures grown { Grown reach.old.spots.items reach.old.tree.items reach.new.spots.items reach.new.tree.items }
-    ensures none { NoneTakes node.now phase flow.now.left.items reach.new.tree.items }
-    ensures reached { (i : ℕ) → i < length reach.old.spots.items → 0 < gives phase (mark_at node.now i) (price_at flow.now.left.items i)
+    ensures none { NoneTakes node.now phase flow.now.excess.items reach.new.tree.items }
+    ensures reached { (i : ℕ) → i < length reach.old.spots.items → 0 < supply_of phase (mark_at node.now i) (price_at flow.now.excess.items i)
         → seen reach.new.spots.items i ≡ true }
     ensures lists { FitTogether rows.now node.now flow.now reach.new }
 {
@@ -177,7 +178,7 @@ fn roots(rows: &[Row], node: &Node, phase: Phase, flow: &Flow, reach: &mut Reach
 }
 
 /// Searches breadth first from all products that give something, until a product is reached that takes something, whose
-/// place it gives, or the rows at all that was reached have been tried. So the path to what it gives is a shortest one.
+/// place it gives, or the rows at all that was reached have been tried. So the path to that product is a shortest one.
 pub fn search(
     rows: &[Row],
     adjacency: &Adjacency,
@@ -186,13 +187,13 @@ pub fn search(
     flow: &Flow,
     reach: &mut Reach,
 ) -> Option<usize>
-    requires searched { IsSearched rows.now node.now phase flow.now.amounts.items flow.now.left.items
+    requires searched { IsSearched rows.now node.now phase flow.now.amounts.items flow.now.excess.items
         reach.old.spots.items reach.old.tree.items }
-    requires none { NoneTakes node.now phase flow.now.left.items reach.old.tree.items }
+    requires none { NoneTakes node.now phase flow.now.excess.items reach.old.tree.items }
     requires adjacency { IsAdjacency rows.now (length node.now) adjacency.now }
     requires lists { FitTogether rows.now node.now flow.now reach.old }
     // What was reached.
-    ensures ended { Ended rows.now node.now phase flow.now.amounts.items flow.now.left.items
+    ensures ended { Ended rows.now node.now phase flow.now.amounts.items flow.now.excess.items
         reach.old.spots.items reach.old.tree.items reach.new.spots.items reach.new.tree.items result }
     ensures lists { FitTogether rows.now node.now flow.now reach.new }
 {

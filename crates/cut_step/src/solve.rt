@@ -1,3 +1,4 @@
+//! Both phases: a closed set of greatest weight, and the multipliers that prove it greatest.
 ghost use Rattle.std.specs.Prelude.{◌≡◌, Bool, length, IfOk, MatchOption};
 ghost use Rattle.offer_model.specs.Assortments.{offers};
 ghost use Rattle.cut_step.specs.Closures.{HasNoClosure, IsGreatestClosure};
@@ -7,8 +8,8 @@ ghost use Rattle.cut_step.specs.Phases.{AreSmall, IsDone};
 
 use crate::adjacency::Adjacency;
 use crate::flow::Flow;
-use crate::forced::force;
-use crate::funded::settle;
+use crate::forced::cover_required;
+use crate::funded::augment_all;
 use crate::reach::Reach;
 use crate::rows::Row;
 use linear_step::Weights;
@@ -28,16 +29,16 @@ fn solve(
     requires small { AreSmall weights.now.items }
     requires weights { length weights.now.items ≡ length node.now }
     requires lists { FitTogether rows.now node.now flow.old reach.old }
-    ensures done { IsDone rows.now node.now weights.now.items flow.new.left.items flow.new.amounts.items
+    ensures done { IsDone rows.now node.now weights.now.items flow.new.excess.items flow.new.amounts.items
         reach.new.spots.items result }
     ensures lists { FitTogether rows.now node.now flow.new reach.new }
 {
     flow.start(weights);
     reach.start();
-    if !force(rows, adjacency, node, flow, reach) {
+    if !cover_required(rows, adjacency, node, flow, reach) {
         return false;
     }
-    settle(rows, adjacency, node, flow, reach);
+    augment_all(rows, adjacency, node, flow, reach);
     true
 }
 
@@ -93,7 +94,7 @@ pub fn multipliers(
     requires weights { length weights.now.items ≡ length node.now }
     requires lists { FitTogether rows.now node.now flow.old reach.old }
     ensures answer { IfOk result (λ numbers. (possible : Bool)
-        × IsDone rows.now node.now weights.now.items flow.new.left.items numbers.items reach.new.spots.items possible) }
+        × IsDone rows.now node.now weights.now.items flow.new.excess.items numbers.items reach.new.spots.items possible) }
     ensures lists { FitTogether rows.now node.now flow.new reach.new }
 {
     let _possible = solve(rows, adjacency, weights, node, flow, reach);

@@ -1,3 +1,4 @@
+//! The step and the closer over the rows of a problem.
 ghost use Rattle.std.specs.Prelude.{◌≡◌, ◌≤◌, length, vec_capacity, IfOk};
 ghost use Rattle.limit_rules.specs.Kinds.{kind_of};
 
@@ -24,11 +25,11 @@ pub struct ClosureStep {
 }
 
 fn flow_of(alloc: Global, rows: usize, products: usize) -> Result<Flow, NoMemory>
-    ensures { IfOk result (λ f. (length f.amounts.items ≡ rows) × (length f.left.items ≡ products)) }
+    ensures { IfOk result (λ f. (length f.amounts.items ≡ rows) × (length f.excess.items ≡ products)) }
 {
     let amounts = vec![in alloc; 0u128; rows]?;
-    let left = vec![in alloc; 0i128; products]?;
-    Ok(Flow { amounts, left })
+    let excess = vec![in alloc; 0i128; products]?;
+    Ok(Flow { amounts, excess })
 }
 
 fn reach_of(alloc: Global, products: usize) -> Result<Reach, NoMemory>

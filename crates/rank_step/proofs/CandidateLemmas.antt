@@ -15,6 +15,7 @@ use Rattle.offer_model.specs.Nodes.{mark_at}
 use Rattle.rank_step.specs.declared.candidates.Candidate.{Candidate}
 use Rattle.rank_step.specs.Candidates.{IsCandidate, Collects, AreCandidates, candidate_at}
 
+-- Collected and sorted by weight they are the candidates.
 pub candidates_sorted : (p : ProblemData) (node : List Mark) (price : ℕ → ℤ) (before list : List Candidate) (n : ℕ) → n ≡ product_count p
     → Collects p node price n before → IsPermutation before list → IsNonDecreasingBy (λ (c : Candidate). c.weight) list
     → AreCandidates p node price list

@@ -125,6 +125,7 @@ term_at us (Some a) l = one_term (length us) a (λ k. get_or us k 0) l
 
 -- ---- A filling as an assortment.
 
+-- A filling keeps all caps.
 pub filling_feasible : (p : ProblemData) (node : List Mark) (price : ℕ → ℤ) (at : PlacesData) (x : List Bool) (rooms : RoomsData) → AreCapPlaces p at
     → IsFilling p node price at x rooms → IsFeasible p x
 filling_feasible p node price at x rooms places f = (
@@ -134,6 +135,7 @@ filling_feasible p node price at x rooms places f = (
       subst (Meets p x) (get_or_default p.limits k (Ladder 0) d l) (meets_cap p x (limit_at p k) (caps_at p places.kind k l) (omega arith)),
 )
 
+-- A filling completes its node.
 pub filling_completes : (p : ProblemData) (node : List Mark) (price : ℕ → ℤ) (at : PlacesData) (x : List Bool) (rooms : RoomsData)
     → length node ≡ product_count p → IsFilling p node price at x rooms → Completes node x
 filling_completes p node price at x rooms long f =
@@ -165,6 +167,7 @@ apart p at i k places inside e = false_from_ne_true (is_place at.total k) (λ t.
 
 -- ---- The bound.
 
+-- A node that is filled is answered by its filling, and the multipliers bring the bound down to its weight.
 pub filled_tight : (p : ProblemData) (node : List Mark) (prices : Prices) (at : PlacesData) (x : List Bool) (rooms : RoomsData) (us : List ℕ)
     → length node ≡ product_count p → AreCapPlaces p at → IsFilled p node prices.price at x rooms → AreMultipliers at rooms us
     → MultipliersFit p us × IsGreatest p prices node x × (worth_of p prices x ≡ multipliers_bound p node us prices)

@@ -45,6 +45,7 @@ int_sum_equal (suc n) f g h =
     let here = h n (omega arith) in
     rw (before, here) refl
 
+-- Equal terms have equal sums.
 pub sum_equal : (n : ℕ) (f g : ℕ → ℕ) → ((i : ℕ) → i < n → f i ≡ g i) → sum_below n f ≡ sum_below n g
 sum_equal zero f g h = refl
 sum_equal (suc n) f g h =

@@ -56,6 +56,7 @@ filling_first p node price at x rooms e long are taken none = record {
     zero_at : (k : ℕ) → cutoff_at rooms k ≡ 0
     zero_at = no_cutoffs rooms.cutoffs (λ k l. none k (let h = are.cutoffs in omega arith))
 
+-- Before the first candidate nothing was refused.
 pub past_first : (p : ProblemData) (node : List Mark) (price : ℕ → ℤ) (at : PlacesData) (list : List Candidate) (x : List Bool) (rooms : RoomsData)
     → x ≡ fill_of node → AreRooms p rooms → ((k : ℕ) → k < length p.limits → cutoff_at rooms k ≡ 0)
     → IsPast p node price at list (length list) x rooms
@@ -69,6 +70,7 @@ past_first p node price at list x rooms e are none = record {
 
 -- ---- A candidate is offered where its caps have room.
 
+-- A candidate that has room may be offered.
 pub filling_more : (p : ProblemData) (node : List Mark) (price : ℕ → ℤ) (at : PlacesData) (x : List Bool) (rooms next : RoomsData) (c : Candidate)
     → AreCapPlaces p at → IsCandidate p node price c → offers x c.product ≡ false
     → IsFullCap rooms at c.product None → IsTaken rooms at c.product next
@@ -131,6 +133,7 @@ filling_more p node price at x rooms next c places candidate o room less f = rec
     earned j l m off (inl e) = rw e here
     earned j l m off (inr ne) = f.earned j l m (sym (get_or-set_other x i j true false ne) ∙ off)
 
+-- One more candidate was offered.
 pub past_offered : (p : ProblemData) (node : List Mark) (price : ℕ → ℤ) (at : PlacesData) (list : List Candidate) (k m : ℕ) (x : List Bool)
     (rooms next : RoomsData) → m ≡ k + 1 → AreCandidates p node price list → k < length list → length x ≡ product_count p
     → next.cutoffs ≡ rooms.cutoffs → IsPast p node price at list m x rooms
@@ -191,6 +194,7 @@ cutoffs_long rooms next k weight h = ap (λ (t : List ℕ). length t) h.cutoffs 
 full_below : (p : ProblemData) (rooms : RoomsData) (full : ℕ) → AreRooms p rooms → full < length rooms.left → full < length rooms.cutoffs
 full_below p rooms full are l = let a = are.left in let b = are.cutoffs in omega arith
 
+-- A refusal keeps the filling.
 pub filling_refused : (p : ProblemData) (node : List Mark) (price : ℕ → ℤ) (at : PlacesData) (list : List Candidate) (k m : ℕ) (x : List Bool)
     (rooms next : RoomsData) (full : ℕ) → m ≡ k + 1 → IsCandidate p node price (candidate_at list k)
     → IsFullCap rooms at (candidate_at list k).product (Some full) → HasRefused rooms full (candidate_at list k).weight next
@@ -228,6 +232,7 @@ filling_refused p node price at list k m x rooms next full last candidate is_ful
         at_place (inl e) = rw e.0 before
         at_place (inr e) = rw e.2 (past.above i k l m o (omega arith))
 
+-- One more candidate was refused.
 pub past_refused : (p : ProblemData) (node : List Mark) (price : ℕ → ℤ) (at : PlacesData) (list : List Candidate) (k m : ℕ) (x : List Bool)
     (rooms next : RoomsData) (full : ℕ) → m ≡ k + 1 → AreCandidates p node price list → k < length list → AreRooms p rooms
     → IsFullCap rooms at (candidate_at list k).product (Some full) → HasRefused rooms full (candidate_at list k).weight next

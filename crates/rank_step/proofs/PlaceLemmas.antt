@@ -111,6 +111,7 @@ is_cap_at [] h k l = absurd (omega arith)
 is_cap_at (limit ∷ limits) h zero l = (and_parts (is_cap limit) (list_all is_cap limits) h).0
 is_cap_at (limit ∷ limits) h (suc k) l = is_cap_at limits (and_parts (is_cap limit) (list_all is_cap limits) h).1 k (omega arith)
 
+-- Where caps are the kind of limits, each limit is a cap.
 pub caps_at : (p : ProblemData) → kind_of p.limits ≡ Caps → (k : ℕ) → k < length p.limits → is_cap (limit_at p k) ≡ true
 caps_at p h = is_cap_at p.limits (Caps-all p.limits h)
 

@@ -50,6 +50,7 @@ places_apart p at i k places inside l = subst (λ t. t ≤ 1) (counts_at p at i 
 
 -- ---- What is In.
 
+-- The fill of a node offers what is In.
 pub fill_at : (node : List Mark) (i : ℕ) → offers (fill_of node) i ≡ is_in (mark_at node i)
 fill_at [] i = refl
 fill_at (m ∷ node) zero = refl
@@ -75,6 +76,7 @@ over_cap p node (Ladder l) i h = cc
 clash_at : (p : ProblemData) (node : List Mark) (k : ℕ) → k < length p.limits → ClashesAt p node (limit_at p k) → Clashes p node
 clash_at p node k l c = (k, limit_at p k, l, get_or_default p.limits k (limit_at p k) (Ladder 0) l, c)
 
+-- The place that is told is the one.
 pub one_place : (k : ℕ) → is_place (Some k) k ≡ true
 one_place k = grind (arith, nat_tests)
 
@@ -149,6 +151,7 @@ sum_added (suc n) x i f l m o = by_place (λ l. sum_added n x i f l m o) (cases_
         let b = before (omega arith) in
         rw (get_or-set_other x i n true false ne) (omega arith)
 
+-- One more product takes its room.
 pub taken_more : (p : ProblemData) (at : PlacesData) (x : List Bool) (rooms next : RoomsData) (i : ℕ) → AreCapPlaces p at → length x ≡ product_count p
     → i < product_count p → offers x i ≡ false → AreRooms p rooms → IsTaken rooms at i next
     → AreTaken p x (product_count p) rooms → AreTaken p (set x i true) (product_count p) next

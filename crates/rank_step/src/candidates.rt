@@ -1,3 +1,4 @@
+//! The Open products that weigh more than 0, by weight.
 ghost use Rattle.std.specs.Prelude.{◌≡◌, ◌+◌, ◌<◌, ◌≤◌, length, vec_capacity};
 ghost use Rattle.offer_model.specs.Problems.{product_count};
 ghost use Rattle.linear_step.specs.Weights.{AreWeights, weight_at};

@@ -1,3 +1,4 @@
+//! The step and the closer under caps.
 ghost use Rattle.std.specs.Prelude.{◌≡◌, ◌↔◌, true, false, length, IfOk, vec_capacity};
 ghost use Rattle.offer_model.specs.Problems.{ProblemData, product_count};
 ghost use Rattle.offer_model.specs.Nodes.{Clashes};

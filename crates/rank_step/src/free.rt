@@ -1,3 +1,4 @@
+//! The step and the closer without limits.
 ghost use Rattle.std.specs.Prelude.{◌≡◌, [], length, IfOk};
 ghost use Rattle.offer_model.specs.Problems.{product_count};
 ghost use Rattle.limit_rules.specs.Kinds.{kind_of};

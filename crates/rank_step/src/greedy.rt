@@ -1,3 +1,4 @@
+//! The filling of a node: candidates from the greatest weight down, where caps have room.
 ghost use Rattle.std.specs.Prelude.{◌≡◌, ◌+◌, ◌<◌, ◌≤◌, true, false, length, vec_capacity};
 ghost use Rattle.offer_model.specs.Problems.{product_count};
 ghost use Rattle.offer_model.specs.Nodes.{fill_of, Clashes};

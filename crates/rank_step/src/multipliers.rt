@@ -1,3 +1,4 @@
+//! The multipliers that the cutoffs of a filling come to.
 ghost use Rattle.std.specs.Prelude.{◌≡◌, ◌-◌, ◌==◌, cond, length, IfOk};
 ghost use Rattle.rank_step.specs.Caps.{IsBelow};
 ghost use Rattle.rank_step.specs.Multipliers.{AreMultipliers};

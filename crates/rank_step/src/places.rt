@@ -1,3 +1,4 @@
+//! Where each cap stands among the limits.
 ghost use Rattle.std.specs.Prelude.{◌≡◌, ℕ, ◌+◌, ◌<◌, ◌==◌, cond, length, Some, None, slice_index_or, IfOk};
 ghost use Rattle.offer_model.specs.Problems.{product_count, product_at};
 ghost use Rattle.limit_rules.specs.Kinds.{kind_of};

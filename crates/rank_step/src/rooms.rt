@@ -1,3 +1,4 @@
+//! The room under each cap, and its cutoff.
 ghost use Rattle.std.specs.Prelude.{◌≡◌, ℕ, ◌+◌, ◌<◌, ◌≤◌, ◌==◌, cond, length, true, false, IfOk, Some, None};
 ghost use Rattle.offer_model.specs.Validity.{is_cap};
 ghost use Rattle.rank_step.specs.Caps.{limit_at, cap_of, category_place, is_place, IsBelow};

@@ -33,6 +33,7 @@ best_of-more space price (suc m) k room more l =
     let b = best_of-more space price m (suc k) (room - space k) (more - space k) (omega arith) in
     better_mono (nat_le (space k) room) (nat_le (space k) more) _ _ _ _ (λ e. grind (arith, nat_tests)) a (omega (arith, ints))
 
+-- More room has no smaller sum.
 pub best_from-more : (space : ℕ → ℕ) (price : ℕ → ℤ) (n k room more : ℕ) → room ≤ more → best_from space price n k room ≤ℤ best_from space price n k more
 best_from-more space price n k = best_of-more space price (n - k) k
 
@@ -45,6 +46,7 @@ pub best_from-step : (space : ℕ → ℕ) (price : ℕ → ℤ) (n k room : ℕ
     ≡ better_of (nat_le (space k) room) (best_from space price n (suc k) room) (price k +ℤ best_from space price n (suc k) (room - space k))
 best_from-step space price n k room l = let e : n - k ≡ suc (n - suc k) = omega arith in rw e refl
 
+-- A product may be left out.
 pub best_from-leave : (space : ℕ → ℕ) (price : ℕ → ℤ) (n k room : ℕ) → k < n → best_from space price n (suc k) room ≤ℤ best_from space price n k room
 best_from-leave space price n k room l =
     rw (best_from-step space price n k room l) (without (nat_le (space k) room) (best_from space price n (suc k) room) (price k +ℤ best_from space price n (suc k) (room - space k)))
@@ -53,12 +55,14 @@ best_from-leave space price n k room l =
     without true a b = omega (arith, ints, clamps)
     without false a b = omega (arith, ints, clamps)
 
+-- A product that fits may be taken.
 pub best_from-take : (space : ℕ → ℕ) (price : ℕ → ℤ) (n k room : ℕ) → k < n → space k ≤ room
     → (price k +ℤ best_from space price n (suc k) (room - space k)) ≤ℤ best_from space price n k room
 best_from-take space price n k room l fits =
     let test : leb (space k) room ≡ true = grind (arith, nat_tests) in
     rw (best_from-step space price n k room l, test) (omega (arith, ints, clamps))
 
+-- One of the two is greatest.
 pub best_from-choice : (space : ℕ → ℕ) (price : ℕ → ℤ) (n k room : ℕ) → k < n
     → (best_from space price n k room ≤ℤ best_from space price n (suc k) room)
     ⊎ ((space k ≤ room) × (best_from space price n k room ≤ℤ (price k +ℤ best_from space price n (suc k) (room - space k))))
@@ -81,6 +85,7 @@ best_of-same space f g n (suc m) k room e same =
       best_of-same space f g n m (suc k) (room - space k) (omega arith) (λ i l. same i (omega arith)),
     ) refl
 
+-- Equal prices from a product on have equal sums from there.
 pub best_from-same : (space : ℕ → ℕ) (f g : ℕ → ℤ) (n k room : ℕ) → k ≤ n → ((i : ℕ) → k ≤ i → i < n → f i ≡ g i)
     → best_from space f n k room ≡ best_from space g n k room
 best_from-same space f g n k room l same = best_of-same space f g n (n - k) k room (omega arith) same
@@ -128,6 +133,7 @@ rest_from p marks price (suc k) room l settled =
 
 -- ---- What is In.
 
+-- The fill of a node offers what is In.
 pub fill_at : (marks : List Mark) (i : ℕ) → offers (fill_of marks) i ≡ is_in (mark_at marks i)
 fill_at [] i = refl
 fill_at (m ∷ marks) zero = refl

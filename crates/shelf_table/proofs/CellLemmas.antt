@@ -12,6 +12,7 @@ use Rattle.shelf_table.specs.Tables.{price_in, better_of, best_of, best_from, Is
 
 -- ---- What the recursion gives.
 
+-- The better of both is at least the sum without the product.
 pub better_without : (fits : Bool) (a b : ℤ) → a ≤ℤ better_of fits a b
 better_without true a b = omega (arith, ints, clamps)
 better_without false a b = omega (arith, ints, clamps)
@@ -33,6 +34,7 @@ best_of-bounds space price n (suc m) k room e small =
 
 -- ---- A row that is filled cell by cell.
 
+-- One more cell of the row is made.
 pub row_more : (old cells : List ℤ) (start width room space : ℕ) (price z : ℤ) → start + room < length cells → room < width
     → z ≡ better_of (nat_le space room) (price_in cells (start + width + room)) (price +ℤ price_in cells (start + width + (room - space)))
     → ((s : ℕ) → s < room → price_in cells (start + s) ≡ better_of (nat_le space s) (price_in old (start + width + s)) (price +ℤ price_in old (start + width + (s - space))))
@@ -44,6 +46,7 @@ row_more old cells start width room space price z inside below is row rest = bel
     room (λ s l. get_or-set_other cells (start + room) (start + s) z (pos 0) (λ e. absurd (omega arith)) ∙ row s l)
     (get_or-set_same cells (start + room) z (pos 0) inside ∙ is ∙ rw (rest (start + width + room) (omega arith), rest (start + width + (room - space)) (omega arith)) refl)
 
+-- A cell of the row leaves the rows behind it as they were.
 pub rest_kept : (old cells : List ℤ) (start width room : ℕ) (z : ℤ) → room < width
     → ((j : ℕ) → start + width ≤ j → price_in cells j ≡ price_in old j)
     → (j : ℕ) → start + width ≤ j → price_in (set cells (start + room) z) j ≡ price_in old j
@@ -51,6 +54,7 @@ rest_kept old cells start width room z below rest j l = get_or-set_other cells (
 
 -- ---- Rows that are filled from the last.
 
+-- A row is made before those that are made.
 pub rows_more : (space : ℕ → ℕ) (price : ℕ → ℤ) (n width k : ℕ) (old cells : List ℤ) → k < n
     → ((s : ℕ) → s < width → price_in cells (k * width + s)
     ≡ better_of (nat_le (space k) s) (price_in old (k * width + width + s)) (price k +ℤ price_in old (k * width + width + (s - space k))))
@@ -84,6 +88,7 @@ sums_fit space price n width k cells below few small rows s b =
     let h = best_of-bounds space price n (n - suc k) (suc k) s (omega arith) small in
     subst IsSum (sym is) (h.0, omega (arith, ints))
 
+-- A small price fits 128 bits.
 pub small_fits : (z : ℤ) → IsSmallPrice z → SFits w128 z
 small_fits (pos n) h = record { sfits = omega (arith, ints) }
 small_fits (negsuc n) h = record { sfits = omega (arith, ints) }

@@ -44,6 +44,7 @@ sum_in : (spaces : List ℕ) (node : List Mark) (i : ℕ) → mark_at node i ≡
     ≡ sum_below i (λ j. cond (offers (fill_of node) j) (get_or spaces j 0) 0) + get_or spaces i 0
 sum_in spaces node i e = rw (add-one, fill_at node i, e) refl
 
+-- Where what is In doesn't fit the room that is left, all that is In is too wide.
 pub no_room : (spaces : List ℕ) (node : List Mark) (shelf i room : ℕ) → i < length spaces → mark_at node i ≡ In
     → sum_below i (λ j. cond (offers (fill_of node) j) (get_or spaces j 0) 0) + room ≡ shelf → room < get_or spaces i 0
     → shelf < sum_below (length spaces) (λ j. cond (offers (fill_of node) j) (get_or spaces j 0) 0)
@@ -52,6 +53,7 @@ no_room spaces node shelf i room inside m so_far over =
     let all = sum_below_le (i + 1) (length spaces) (λ j. cond (offers (fill_of node) j) (get_or spaces j 0) 0) (omega arith) in
     omega arith
 
+-- What is In takes its space from the room.
 pub room_taken : (spaces : List ℕ) (node : List Mark) (shelf i room : ℕ) → mark_at node i ≡ In
     → sum_below i (λ j. cond (offers (fill_of node) j) (get_or spaces j 0) 0) + room ≡ shelf → get_or spaces i 0 ≤ room
     → sum_below (i + 1) (λ j. cond (offers (fill_of node) j) (get_or spaces j 0) 0) + (room - get_or spaces i 0) ≡ shelf
@@ -59,12 +61,14 @@ room_taken spaces node shelf i room m so_far fits = let here = sum_in spaces nod
 
 -- ---- By the problem's spaces.
 
+-- The room that is left and the space of what is In are the shelf.
 pub room_is : (p : ProblemData) (spaces : List ℕ) (shelf : ℕ) (node : List Mark) (room : ℕ) → AreSpaces p spaces → IsRoomLeft spaces shelf node (Some room)
     → sum_offered p (fill_of node) (space_of p) + room ≡ shelf
 room_is p spaces shelf node room s h =
     subst (λ (f : ℕ → ℕ). sum_below (product_count p) (λ i. cond (offers (fill_of node) i) (f i) 0) + room ≡ shelf) (spaces_same p spaces s)
     (subst (λ n. sum_below n (λ i. cond (offers (fill_of node) i) (get_or spaces i 0) 0) + room ≡ shelf) s.each h)
 
+-- Where no room is left, what is In is too wide.
 pub over_is : (p : ProblemData) (spaces : List ℕ) (shelf : ℕ) (node : List Mark) → AreSpaces p spaces → IsRoomLeft spaces shelf node None
     → shelf < sum_offered p (fill_of node) (space_of p)
 over_is p spaces shelf node s h =

@@ -1,3 +1,4 @@
+//! The spaces of products, and the room that what is In leaves.
 ghost use Rattle.std.specs.Prelude.{◌≡◌, ◌≢◌, ℕ, ◌<◌, ◌≤◌, length, IfOk};
 ghost use Rattle.offer_model.specs.declared.node.Mark.TheVariants.{Open};
 ghost use Rattle.offer_model.specs.Nodes.{mark_at};

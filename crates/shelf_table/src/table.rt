@@ -1,3 +1,4 @@
+//! The table of greatest sums, filled from the last product to the first.
 ghost use Rattle.std.specs.Prelude.{◌≡◌, ℕ, ◌+◌, ◌-◌, ◌*◌, ◌<◌, ◌≤◌, nat_le, length, IfOk, ◌+ℤ◌};
 ghost use Rattle.offer_model.specs.Problems.{product_count};
 ghost use Rattle.shelf_table.specs.Tables.{space_of, price_in, better_of, best_from, IsSmallPrice, IsSum, cell_at, IsTableOf};

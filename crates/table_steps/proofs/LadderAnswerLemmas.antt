@@ -49,6 +49,7 @@ beside_term Open false (pos zero) = refl
 beside_term Open false (pos (suc n)) = refl
 beside_term Open false (negsuc n) = refl
 
+-- Before the first ladder the products beside ladders are chosen.
 pub chosen_start : (p : ProblemData) (node : List Mark) (at : Prices) (ladders : List RungsData) (us : List ℕ) (x : List Bool)
     → ArePotentials p node at.price us → TakesBeside p node at.price x → IsChosen p node at ladders us 0 x
 chosen_start p node at ladders us x potentials t = record {
@@ -88,6 +89,7 @@ pub next_free : (p : ProblemData) (node : List Mark) (at : Prices) (ladders : Li
 next_free p node at ladders us k x are l chosen i li on u =
     chosen.later i li u (λ j lj e. ladders_differ p ladders j k are lj l (sym e ∙ on))
 
+-- One more ladder was climbed, and the ones before it stand.
 pub chosen_more : (p : ProblemData) (node : List Mark) (at : Prices) (ladders : List RungsData) (us : List ℕ) (k : ℕ) (x y : List Bool)
     → AreLadders p ladders → ArePotentials p node at.price us → k < length p.limits → IsChosen p node at ladders us k x
     → HasClimbed p at us (rungs_at ladders k).ladder x y → IsChosen p node at ladders us (k + 1) y
@@ -184,6 +186,7 @@ module _ (p : ProblemData) (node : List Mark) (at : Prices) (ladders : List Rung
 
 -- ---- Answers.
 
+-- What all ladders come to is a greatest completion.
 pub solved_greatest : (p : ProblemData) (node : List Mark) (at : Prices) (us : List ℕ) (x : List Bool) → IsSolved p node at us x → IsGreatest p at node x
 solved_greatest p node at us x s = record {
   feasible = s.feasible;
@@ -191,6 +194,7 @@ solved_greatest p node at us x s = record {
   most = λ y f c. let le = potentials_hold p node us at y c f s.fit in let w = s.worth in omega (arith, ints);
 }
 
+-- The potentials of what is solved close the node.
 pub solved_closes : (p : ProblemData) (node : List Mark) (at : Prices) (us : Roomy ℕ) (x : List Bool) → kind_of p.limits ≡ K.Ladder
     → IsSolved p node at us.items x → Closes p at node (Potentials us)
 solved_closes p node at us x kind s = Closes-from_bound p at node (Potentials us) (potentials_bound p node us.items at) (λ e. cc)
@@ -199,5 +203,6 @@ solved_closes p node at us x kind s = Closes-from_bound p at node (Potentials us
     (s.fit, refl)
     (inl (x, solved_greatest p node at us.items x s, s.worth))
 
+-- A node that clashes has no feasible completion.
 pub clash_has_none : (p : ProblemData) (node : List Mark) → Clashes p node → HasNone p node
 clash_has_none p node c y f k = clash_none p node y c f k

@@ -72,6 +72,7 @@ differ : (b : Bool) → b ≡ false → b ≡ true → ⊥
 differ true e h = cc
 differ false e h = cc
 
+-- A climb begins below the first rung, with nothing offered of what has a potential.
 pub climb_start : (p : ProblemData) (at : Prices) (us : List ℕ) (r : RungsData) (m : ℕ) (x : List Bool) → AreRungs p r → length x ≡ product_count p
     → IsGreatestAfter p us r.products None 0 (length r.products) m
     → ((i : ℕ) → i < product_count p → ladder_of p i ≡ r.ladder → 0 < slice_index us i → offers x i ≡ false)
@@ -192,6 +193,7 @@ climb_skipped p at us r k want i last x y here off c = record {
 
 -- ---- The end.
 
+-- A climb past the last rung has followed a greatest chain to its end.
 pub climb_last : (p : ProblemData) (at : Prices) (us : List ℕ) (r : RungsData) (k want : ℕ) (last : Option Product) (x y : List Bool)
     → k ≡ length r.products → length x ≡ product_count p → IsClimbing p at us r k want last x y → HasClimbed p at us r.ladder x y
 climb_last p at us r k want last x y e long c = record {

@@ -93,9 +93,11 @@ ladders_more p k ladders r limit kind l read name are below = record {
   rungs = pushed_more (λ j t. AreRungs p t) ladders (ladders ++ r ∷ []) r (record { ladder = 0; products = [] }) k refl below.each below.rungs are;
 }
 
+-- The ladder that is read is the one at its position.
 pub rungs_read : (ladders : List RungsData) (k : ℕ) (r : RungsData) → k < length ladders → r ≡ slice_index_or ladders k r → r ≡ rungs_at ladders k
 rungs_read ladders k r l e = e ∙ get_or_default ladders k r (record { ladder = 0; products = [] }) l
 
+-- The ladder at each position is limited.
 pub ladder_limited : (p : ProblemData) (ladders : List RungsData) (k : ℕ) → AreLadders p ladders → k < length ladders
     → is_limited p.limits (rungs_at ladders k).ladder ≡ true
 ladder_limited p ladders k are l =
@@ -110,6 +112,7 @@ ladder_where p ladders l are h =
     let e : Ladder l ≡ Ladder (rungs_at ladders w.0).ladder = sym w.2 ∙ are.below.named w.0 w.1 in
     (w.0, w.1, ap named_ladder e)
 
+-- No two positions have one ladder.
 pub ladders_differ : (p : ProblemData) (ladders : List RungsData) (j k : ℕ) → AreLadders p ladders → j < k → k < length p.limits
     → (rungs_at ladders j).ladder ≢ (rungs_at ladders k).ladder
 ladders_differ p ladders j k are lt l e = are.valid.limits.once j k (Total 0) lt l

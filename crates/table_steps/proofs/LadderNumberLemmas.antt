@@ -26,6 +26,7 @@ pub stand_from_rise : (a b : Product) → (Rises a b ⊎ Rises b a) → MayStand
 stand_from_rise a b (inl r) = let g = r.0 in let q = r.1 in ((λ e. absurd (omega arith), λ l. q), (λ e. absurd (omega arith), λ l. absurd (omega arith)))
 stand_from_rise a b (inr r) = let g = r.0 in let q = r.1 in ((λ e. absurd (omega arith), λ l. absurd (omega arith)), (λ e. absurd (omega arith), λ l. q))
 
+-- Of two products that may stand together one is above the other.
 pub rise_from_stand : (a b : Product) → MayStand a b → MayStand b a → Rises a b ⊎ Rises b a
 rise_from_stand a b m n = by_grade (cases_lt a.grade b.grade) (cases_lt b.grade a.grade)
   where
@@ -48,6 +49,7 @@ usable_from_beside p node r k are limited l o beside = record {
       (beside q.0 q.1 (rw q.2 inside)));
 }
 
+-- What may be used stands beside all that is In on its ladder.
 pub beside_from_usable : (p : ProblemData) (node : List Mark) (r : RungsData) (k : ℕ) → AreRungs p r → k < length r.products
     → IsUsable p node (slice_index r.products k) → StandsBeside p node r.products (slice_index r.products k)
 beside_from_usable p node r k are l u q lq inside =
@@ -72,6 +74,7 @@ rises_where p r k j are l lj rise =
     let q = are.all j lj (rise.0 ∙ are.on k l) in
     (q.0, higher_place p r k q.0 are l (rw q.2 rise.1), q.1, q.2)
 
+-- The greatest potential of what follows on the list is the greatest of what stands above on the ladder.
 pub above_from_after : (p : ProblemData) (us : List ℕ) (r : RungsData) (k m : ℕ) → AreRungs p r → k < length r.products
     → IsGreatestAfter p us r.products (Some (product_at p (slice_index r.products k))) (k + 1) (length r.products) m
     → IsAbove p us (slice_index r.products k) m
@@ -110,6 +113,7 @@ potential_kept p node price us vs i u same (inl h) = inl (
 
 -- ---- The potential of one product.
 
+-- The number that is computed is the product's potential.
 pub potential_is : (p : ProblemData) (node : List Mark) (price : ℕ → ℤ) (us : List ℕ) (r : RungsData) (k i m u : ℕ) (b : Product) → AreRungs p r
     → k < length r.products → slice_index r.products k ≡ i → product_at p i ≡ b → IsUsable p node (slice_index r.products k)
     → IsGreatestAfter p us r.products (Some b) (k + 1) (length r.products) m → pos u ≡ positive_part (price i +ℤ pos m)
@@ -188,6 +192,7 @@ small_more us list k u most l here above q kq lq = by_product (cases_eq (slice_i
         next (inl e) = absurd (ne (ap (slice_index list) e))
         next (inr h) = omega arith
 
+-- Once the first rung is raised, the whole ladder has its potentials.
 pub raised_end : (p : ProblemData) (node : List Mark) (price : ℕ → ℤ) (r : RungsData) (us vs : List ℕ) → AreRungs p r → length vs ≡ length us
     → ((q : ℕ) → 0 ≤ q → q < length r.products → IsPotential p node price vs (slice_index r.products q) (slice_index vs (slice_index r.products q)))
     → ((q : ℕ) → 0 ≤ q → q < length r.products → slice_index vs (slice_index r.products q) ≤ (length r.products - 0) * price_bound)

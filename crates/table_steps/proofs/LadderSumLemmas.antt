@@ -13,6 +13,7 @@ use Rattle.offer_model.specs.Prices.{Prices, int_sum_below, worth_of}
 use Rattle.offer_model.specs.LeafBounds.{ladder_top, ladder_tops}
 use Rattle.table_steps.specs.LadderFits.{named_ladder}
 
+-- Equal terms have equal sums.
 pub sum_same : (n : ℕ) (f g : ℕ → ℤ) → ((i : ℕ) → i < n → f i ≡ g i) → int_sum_below n f ≡ int_sum_below n g
 sum_same zero f g h = refl
 sum_same (suc n) f g h =

@@ -37,6 +37,7 @@ FitsShelf-from_parts p shelf spaces prices t one s each products room table = re
   table = subst (λ f. IsTableOf t f (price_in prices)) (sym (spaces_same p spaces s)) table;
 }
 
+-- The table of a step that fits is one of the problem's spaces.
 pub fits_table : (p : ProblemData) (shelf : ℕ) (spaces : List ℕ) (prices : List ℤ) (t : TableData) → FitsShelf p shelf spaces prices t
     → IsTableOf t (space_of p) (price_in prices)
 fits_table p shelf spaces prices t f = subst (λ g. IsTableOf t g (price_in prices)) (spaces_same p spaces f.same_spaces) f.table
@@ -126,6 +127,7 @@ taken_open space n node price k room l fits more most = by_mark (mark_at node k)
     by_mark In e = absurd (no_gain (rw e refl))
     by_mark Out e = absurd (no_gain (rw e refl))
 
+-- Where a product makes the cell greater, it fits, and the cell is its price and the rest.
 pub gain_fits : (space : ℕ → ℕ) (n : ℕ) (price : ℕ → ℤ) (k room : ℕ) → k < n
     → best_from space price n (suc k) room <ℤ best_from space price n k room
     → (space k ≤ room) × (best_from space price n k room ≤ℤ (price k +ℤ best_from space price n (suc k) (room - space k)))
@@ -227,6 +229,7 @@ pub record HasCells (p : ProblemData) (node : List Mark) (price : ℕ → ℤ) (
   pub here : best_from (space_of p) (free_prices node price) (product_count p) k room ≡ a
   pub next : best_from (space_of p) (free_prices node price) (product_count p) (suc k) room ≡ b
 
+-- The two cells that a reading compares.
 pub cells_are : (p : ProblemData) (shelf : ℕ) (spaces : List ℕ) (prices : List ℤ) (t : TableData) (node : List Mark) (price : ℕ → ℤ) (start : ℕ) (z : ℤ)
     (k : ℕ) (x : List Bool) (room : ℕ) (a b : ℤ) → FitsShelf p shelf spaces prices t
     → ((i : ℕ) → start ≤ i → i < product_count p → price_in prices i ≡ free_prices node price i) → start ≤ k → k < product_count p
@@ -246,6 +249,7 @@ less_true a b e = grind (arith, ints)
 less_false : (a b : ℤ) → lt_z b a ≡ false → a ≤ℤ b
 less_false a b e = grind (arith, ints)
 
+-- A product that the cells ask for fits the room.
 pub fits_step : (p : ProblemData) (node : List Mark) (price : ℕ → ℤ) (k room : ℕ) (a b : ℤ) → k < product_count p → HasCells p node price k room a b
     → lt_z b a ≡ true → space_of p k ≤ room
 fits_step p node price k room a b l h e =
@@ -254,6 +258,7 @@ fits_step p node price k room a b l h e =
     let more = less_true a b e in
     (gain_fits (space_of p) (product_count p) (free_prices node price) k room l (omega (arith, ints))).0
 
+-- The reading goes on with a product.
 pub take_step : (p : ProblemData) (node : List Mark) (price : ℕ → ℤ) (shelf : ℕ) (z : ℤ) (k : ℕ) (x : List Bool) (room : ℕ) (a b : ℤ) → k < product_count p
     → HasCells p node price k room a b → lt_z b a ≡ true → IsRead (space_of p) (product_count p) node price shelf z k x room
     → IsRead (space_of p) (product_count p) node price shelf z (k + 1) (set x k true) (room - space_of p k)
@@ -263,6 +268,7 @@ take_step p node price shelf z k x room a b l h e r =
     let more = less_true a b e in
     rw add-one (read_take (space_of p) (product_count p) node price shelf z k x room l (omega (arith, ints)) r)
 
+-- The reading goes on without a product.
 pub leave_step : (p : ProblemData) (node : List Mark) (price : ℕ → ℤ) (shelf : ℕ) (z : ℤ) (k : ℕ) (x : List Bool) (room : ℕ) (a b : ℤ) → k < product_count p
     → HasCells p node price k room a b → lt_z b a ≡ false → IsRead (space_of p) (product_count p) node price shelf z k x room
     → IsRead (space_of p) (product_count p) node price shelf z (k + 1) x room
@@ -274,8 +280,10 @@ leave_step p node price shelf z k x room a b l h e r =
 
 -- ---- Lists of the code.
 
+-- The front as long as a list is the list.
 pub take_whole : (n : ℕ) (xs ys : List ℤ) → length xs ≡ n → take n (xs ++ ys) ≡ xs
 take_whole n xs ys e = rw (← e) (take-append_seam xs ys)
 
+-- The space that is read is the product's.
 pub space_read : (p : ProblemData) (spaces : List ℕ) (k w : ℕ) → AreSpaces p spaces → k < product_count p → w ≡ get_or spaces k w → w ≡ space_of p k
 space_read p spaces k w s l e = let each = s.each in get_or_read spaces k w (omega arith) e 0 ∙ s.is k l

@@ -82,6 +82,7 @@ clash_is p node shelf one over = rw one (0, Shelf shelf, omega arith, refl, λ m
 pub over_has_none : (p : ProblemData) (node : List Mark) (shelf : ℕ) → p.limits ≡ Shelf shelf ∷ [] → shelf < sum_offered p (fill_of node) (space_of p) → HasNone p node
 over_has_none p node shelf one over y f c = clash_none p node y (clash_is p node shelf one over) f c
 
+-- Where what is In is too wide for the shelf, the node closes by its clash.
 pub over_closes : (p : ProblemData) (node : List Mark) (at : Prices) (shelf : ℕ) → p.limits ≡ Shelf shelf ∷ []
     → shelf < sum_offered p (fill_of node) (space_of p) → Closes p at node C.Clash
 over_closes p node at shelf one over = Closes-from_clash p at node (clash_is p node shelf one over)

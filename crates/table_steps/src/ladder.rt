@@ -1,3 +1,4 @@
+//! The step and the closer under price ladders.
 ghost use Rattle.std.specs.Prelude.{◌≡◌, ◌↔◌, true, false, IsTrue, length, IfOk};
 ghost use Rattle.offer_model.specs.Problems.{ProblemData, product_count};
 ghost use Rattle.offer_model.specs.Nodes.{Clashes};

@@ -1,3 +1,4 @@
+//! What is offered at a node: what stands beside ladders, and of each ladder a greatest chain.
 ghost use Rattle.std.specs.Prelude.{◌≡◌, ◌↔◌, ℕ, ◌<◌, ◌≤◌, true, false, IsTrue, length, pos, ◌-ℤ◌, ◌≤ℤ◌, slice_index};
 ghost use Rattle.offer_model.specs.Assortments.{offers};
 ghost use Rattle.offer_model.specs.Problems.{product_count, product_at};

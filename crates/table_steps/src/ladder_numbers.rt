@@ -1,3 +1,4 @@
+//! Potentials: of each product on a limited ladder what a chain that begins with it weighs at most.
 ghost use Rattle.std.specs.Prelude.{◌≡◌, ◌↔◌, ℕ, ◌-◌, ◌*◌, ◌<◌, ◌≤◌, true, IsTrue, length, pos, ◌+ℤ◌, slice_index};
 ghost use Rattle.offer_model.specs.Problems.{product_count};
 ghost use Rattle.offer_model.specs.Prices.{positive_part};

@@ -1,3 +1,4 @@
+//! The products of a ladder by grade.
 ghost use Rattle.std.specs.Prelude.{◌≡◌, ◌<◌, length, IfOk};
 ghost use Rattle.offer_model.specs.Problems.{product_count, product_at};
 ghost use Rattle.table_steps.specs.LadderRungs.{AreRungs, Collects};

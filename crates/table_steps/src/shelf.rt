@@ -1,3 +1,4 @@
+//! The step and the closer under a shelf.
 ghost use Rattle.std.specs.Prelude.{◌≡◌, ℕ, ◌+◌, ◌<◌, ◌≤◌, ◌↔◌, length, IfOk, cond, slice_index, Some};
 ghost use Rattle.offer_model.specs.Problems.{ProblemData, product_count};
 ghost use Rattle.limit_rules.specs.Kinds.{kind_of};

@@ -1,3 +1,4 @@
+//! The prices that a table is made for, and when it has to be made again.
 ghost use Rattle.std.specs.Prelude.{◌≡◌, ℕ, ◌<◌, ◌≤◌, [], ◌∷◌, false, length};
 ghost use Rattle.offer_model.specs.declared.products.Limit.TheVariants.{Shelf};
 ghost use Rattle.offer_model.specs.Problems.{product_count};

@@ -20,7 +20,7 @@ loop-position-preserved c =
     let same : i ≡ product_of old.tree.items c.args.place = ap (λ (x : Entry). x.product) c.entry-i.ensures in
     let here : seen new.spots.items i ≡ true = grown.more i (ap (seen old.spots.items) same ∙ ap is_seen (c.requires.searched.placed c.args.place c.requires.place)) in
     let now : IsSpent rows f (seen new.spots.items) i (slice_index list c.loop-position.position)
-        = subst (λ (k : ℕ). IsSpent rows f (seen new.spots.items) i k) c.row-k.ensures (shut_spent rows f (seen new.spots.items) i c.row-k.result here looked.shut) in
+    = subst (λ (k : ℕ). IsSpent rows f (seen new.spots.items) i k) c.row-k.ensures (shut_spent rows f (seen new.spots.items) i c.row-k.result here looked.shut) in
     record {
       searched = looked.searched;
       grown = grown;

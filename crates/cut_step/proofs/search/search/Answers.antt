@@ -54,6 +54,6 @@ returns-clause-ended c =
       grown = was.grown;
       roots = was.reached;
       told = was.none;
-      shut = λ e. spent_shut c.args.rows.now c.args.node.now c.args.phase c.args.flow.now.amounts.items c.args.flow.now.left.items
+      shut = λ e. spent_shut c.args.rows.now c.args.node.now c.args.phase c.args.flow.now.amounts.items c.args.flow.now.excess.items
           reach.spots.items reach.tree.items was.searched (λ j l. was.spent j (omega (arith, l, end)));
     }

@@ -2,16 +2,16 @@ use Rattle.std.proofs.Common.{◌≡◌, ◌<◌, ◌≤◌, ◌-◌, ℕ, true,
 use Rattle.offer_model.specs.Nodes.{mark_at}
 use Rattle.cut_step.specs.Closures.{price_at}
 use Rattle.cut_step.specs.Trees.{product_of}
-use Rattle.cut_step.specs.Searches.{seen, gives, IsSpent, IsSearched, Grown, NoneTakes}
+use Rattle.cut_step.specs.Searches.{seen, supply_of, IsSpent, IsSearched, Grown, NoneTakes}
 use Rattle.cut_step.specs.Sizes.{FitTogether}
 use Rattle.cut_step.proofs.search.search.Given as goal
 
 abbrev pub invariant-loop-place : goal.invariant-loop-place
 invariant-loop-place l = record {
-  searched : IsSearched l.rows l.node l.phase l.flow.amounts.items l.flow.left.items l.reach.spots.items l.reach.tree.items;
+  searched : IsSearched l.rows l.node l.phase l.flow.amounts.items l.flow.excess.items l.reach.spots.items l.reach.tree.items;
   grown : Grown l.fn.reach.spots.items l.fn.reach.tree.items l.reach.spots.items l.reach.tree.items;
-  none : NoneTakes l.node l.phase l.flow.left.items l.reach.tree.items;
-  reached : (i : ℕ) → i < length l.fn.reach.spots.items → 0 < gives l.phase (mark_at l.node i) (price_at l.flow.left.items i)
+  none : NoneTakes l.node l.phase l.flow.excess.items l.reach.tree.items;
+  reached : (i : ℕ) → i < length l.fn.reach.spots.items → 0 < supply_of l.phase (mark_at l.node i) (price_at l.flow.excess.items i)
       → seen l.reach.spots.items i ≡ true;
   inside : l.place ≤ length l.reach.tree.items;
   spent : (j : ℕ) → j < l.place → (k : ℕ) → k < length l.rows

@@ -11,6 +11,6 @@ returns-clause-answer c =
     let done = c.if-not-solve.ensures in (
       c.in_ok-x.ensures.each ∙ sym done.lists.marks,
       greatest_same c.args.rows.now c.args.node.now c.args.weights.now.items (seen reach.spots.items) (offers x) c.in_ok-x.ensures.offered
-          (solved_greatest c.args.rows.now c.args.node.now c.args.weights.now.items c.solve.new.flow.left.items c.solve.new.flow.amounts.items
+          (solved_greatest c.args.rows.now c.args.node.now c.args.weights.now.items c.solve.new.flow.excess.items c.solve.new.flow.amounts.items
           reach.spots.items (sym c.requires.weights) done.done),
     )

@@ -14,7 +14,7 @@ returns-clause-answer c =
     let p = c.args.p.now in
     let is : c.deref.result.now ≡ rows_of p.limits = c.deref.ensures.value ∙ ready.rows in
     let done = c.in_ok-numbers.ensures.answer in
-    done_closes p c.args.node.now c.args.weights.now c.multipliers.new.flow.left.items c.in_ok-numbers.numbers c.multipliers.new.reach.spots.items
+    done_closes p c.args.node.now c.args.weights.now c.multipliers.new.flow.excess.items c.in_ok-numbers.numbers c.multipliers.new.reach.spots.items
     done.0 ready.kind c.requires.node c.requires.weights (λ k. let yes = c.clashes.ensures.1 k in cc)
-    (subst (λ (rows : List Row). IsDone rows c.args.node.now c.args.weights.now.items c.multipliers.new.flow.left.items c.in_ok-numbers.numbers.items
+    (subst (λ (rows : List Row). IsDone rows c.args.node.now c.args.weights.now.items c.multipliers.new.flow.excess.items c.in_ok-numbers.numbers.items
     c.multipliers.new.reach.spots.items done.0) is done.1)

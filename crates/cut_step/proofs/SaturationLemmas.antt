@@ -12,13 +12,13 @@ use Rattle.cut_step.specs.declared.reach.Spot.{Spot}
 use Rattle.cut_step.specs.declared.reach.Spot.TheVariants.{Free, Kept, At}
 use Rattle.cut_step.specs.Closures.{first_of, second_of, AreNamed, price_at}
 use Rattle.cut_step.specs.Flows.{IsBalanced, Carried}
-use Rattle.cut_step.specs.Searches.{spot_at, is_seen, seen, gives, lacks}
+use Rattle.cut_step.specs.Searches.{spot_at, is_seen, seen, supply_of, deficit_of}
 use Rattle.cut_step.specs.Phases.{IsFlowing, IsKeeping, IsUnderway, Falls}
 use Rattle.cut_step.specs.Phases.Falls.{from_open}
 use Rattle.cut_step.proofs.FallLemmas.{falls, flows_by, others_same}
-use Rattle.cut_step.proofs.ForcedLemmas.{lacks_some}
+use Rattle.cut_step.proofs.ForcedLemmas.{deficit_some}
 use Rattle.cut_step.proofs.MoveLemmas.{balanced_moved}
-use Rattle.cut_step.proofs.StartLemmas.{gives_open}
+use Rattle.cut_step.proofs.StartLemmas.{supply_open}
 
 free_seen : (s : Spot) → is_seen s ≡ false → s ≡ Kept → ⊥
 free_seen Free h q = cc
@@ -26,16 +26,16 @@ free_seen Kept h q = cc
 free_seen (At p) h q = cc
 
 -- An amount over one row alone keeps what the second phase keeps.
-pub pay_some : (rows : List Row) (node : List Mark) (w r r' : List ℤ) (f f' : List ℕ) (spots : List Spot) (k d : ℕ)
+pub saturated_some : (rows : List Row) (node : List Mark) (w r r' : List ℤ) (f f' : List ℕ) (spots : List Spot) (k d : ℕ)
     → k < length rows → AreNamed rows (length r) → seen spots (first_of rows k) ≡ false → seen spots (second_of rows k) ≡ false
-    → 0 < d → d ≤ gives Funded (mark_at node (first_of rows k)) (price_at r (first_of rows k)) → d ≤ lacks (mark_at node (second_of rows k)) (price_at r (second_of rows k))
+    → 0 < d → d ≤ supply_of Funded (mark_at node (first_of rows k)) (price_at r (first_of rows k)) → d ≤ deficit_of (mark_at node (second_of rows k)) (price_at r (second_of rows k))
     → f' ≡ set f k (get_or f k 0 + d) → Carried r r' (first_of rows k) (second_of rows k) d
     → IsFlowing rows node w r f → IsKeeping rows node r f spots → IsUnderway rows node w r' f' spots
-pay_some rows node w r r' f f' spots k d l names sa sb some enough need e c g kp =
-    let a = gives_open (mark_at node (first_of rows k)) (price_at r (first_of rows k)) (omega (arith, some, enough)) in
-    let b = lacks_some (mark_at node (second_of rows k)) (price_at r (second_of rows k)) _ refl (omega (arith, some, need)) in
+saturated_some rows node w r r' f f' spots k d l names sa sb some enough need e c g kp =
+    let a = supply_open (mark_at node (first_of rows k)) (price_at r (first_of rows k)) (omega (arith, some, enough)) in
+    let b = deficit_some (mark_at node (second_of rows k)) (price_at r (second_of rows k)) _ refl (omega (arith, some, need)) in
     let n = names k l in
-    let len = g.left_each in
+    let len = g.excess_each in
     let fall : Falls node r (first_of rows k) (second_of rows k) d = from_open a.0 (omega (arith, ints, a.1, enough)) b.0 (omega (arith, ints, b.1, need)) in
     let less = falls node (length w) r r' (first_of rows k) (second_of rows k) d (omega (arith, n.0, len)) (omega (arith, n.1, len)) some c fall in
     let inside : k < length f = omega (arith, l, g.rows_each) in
