@@ -13,7 +13,6 @@ use Rattle.cut_step.specs.declared.reach.Entry.{Entry}
 use Rattle.cut_step.specs.Closures.{price_at}
 use Rattle.cut_step.specs.Flows.{IsBalanced, at, Carried}
 use Rattle.cut_step.specs.Trees.{product_of, IsTree, Pushed}
-use Rattle.cut_step.specs.Searches.{supply_of, deficit_of}
 use Rattle.cut_step.specs.Phases.{imbalance, imbalance_of, IsFlowing, Augmented, Falls}
 use Rattle.cut_step.specs.Phases.Falls.{from_in, from_open, to_out}
 use Rattle.cut_step.proofs.TotalLemmas.{sum_less}

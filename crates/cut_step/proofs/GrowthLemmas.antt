@@ -1,5 +1,5 @@
 -- A search tree with one more entry.
-use Rattle.std.proofs.Common.{◌≡◌, ℕ, Bool, true, false, cond, List, [], ◌∷◌, ◌++◌, length, refl, arith, suc, zero, ◌<◌, ◌≤◌, ◌+◌, ◌-◌, get_or, set, eqb, inl, inr, ap, sym, subst, ◌∙◌, ◌≢◌, get_or-set_other, get_or-set_same, length-set, length-append, below_more}
+use Rattle.std.proofs.Common.{◌≡◌, ℕ, Bool, true, false, cond, List, [], ◌∷◌, ◌++◌, length, refl, arith, suc, zero, ◌<◌, ◌≤◌, ◌+◌, ◌-◌, set, eqb, inl, inr, ap, sym, subst, ◌∙◌, ◌≢◌, get_or-set_other, get_or-set_same, length-set, length-append, below_more}
 use Rattle.std.specs.Prelude.{pos, negsuc, slice_index, ◌⊎◌, None}
 use Rattle.std.proofs.lemmas.Bool.{cases_eq}
 use Rattle.std.proofs.lemmas.Bool.Decides.{eqb_tells}

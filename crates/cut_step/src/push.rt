@@ -1,5 +1,5 @@
 //! An amount that is carried along an augmenting path.
-ghost use Rattle.std.specs.Prelude.{◌≡◌, ℕ, ◌<◌, ◌≤◌, ◌^◌, List, length};
+ghost use Rattle.std.specs.Prelude.{◌≡◌, ℕ, ◌<◌, ◌≤◌, ◌^◌, ◌⊎◌, List, length};
 ghost use lib.IntN.{ℤ};
 ghost use Rattle.cut_step.specs.Trees.{Pushed, before, cap};
 ghost use Rattle.cut_step.specs.Searches.{RootsGive, TakesAt};
@@ -36,6 +36,7 @@ pub fn least(a: u128, b: u128) -> u128
     ensures first { result ≤ a }
     ensures second { result ≤ b }
     ensures some { 0 < a → 0 < b → 0 < result }
+    ensures either { (result ≡ a) ⊎ (result ≡ b) }
 {
     if a < b { a } else { b }
 }
@@ -47,6 +48,7 @@ pub fn portion(cap: u128, deficit: u128) -> u128
     ensures cap { result ≤ cap }
     ensures small { result ≤ 2 ^ 108 }
     ensures need { 0 < deficit → result ≤ deficit }
+    ensures whole { (result ≡ cap) ⊎ ((result ≡ 2 ^ 108) ⊎ (result ≡ deficit)) }
 {
     let most = least(cap, 1 << 108);
     if deficit == 0 {

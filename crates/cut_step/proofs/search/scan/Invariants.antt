@@ -1,4 +1,4 @@
-use Rattle.std.proofs.Common.{◌≡◌, ◌<◌, ◌≤◌, ℕ, length}
+use Rattle.std.proofs.Common.{◌<◌, ◌≤◌, ℕ}
 use Rattle.std.specs.Prelude.{slice_index}
 use Rattle.cut_step.specs.Searches.{seen, IsSpent, IsSearched, Grown, NoneTakes}
 use Rattle.cut_step.specs.Sizes.{FitTogether}

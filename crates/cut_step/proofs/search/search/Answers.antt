@@ -1,5 +1,4 @@
-use Rattle.std.proofs.Common.{◌≡◌, ◌∙◌, ◌+◌, ◌<◌, ◌≤◌, ℕ, inl, inr, true, ap, arith, refl, sym, subst, length}
-use Rattle.std.specs.Prelude.{None}
+use Rattle.std.proofs.Common.{◌∙◌, ◌<◌, ◌≤◌, ℕ, inl, inr, ap, arith, refl, sym, subst, length}
 use Rattle.std.proofs.lemmas.Bool.{cases_eq}
 use Rattle.cut_step.specs.declared.reach.Entry.{Entry}
 use Rattle.cut_step.specs.Trees.{product_of}
