@@ -28,11 +28,11 @@ use Rattle.linear_step.specs.declared.closing.Closing.TheVariants.{Potentials}
 use Rattle.linear_step.proofs.CallerLemmas.{Closes-from_bound, HasShape-at}
 use Rattle.table_steps.specs.LadderRungs.{RungsData, rungs_at}
 use Rattle.table_steps.specs.LadderFits.{AreLadders}
-use Rattle.table_steps.specs.LadderNumbers.{ArePotentials}
+use Rattle.table_steps.specs.LadderPotentials.{ArePotentials}
 use Rattle.table_steps.specs.LadderChoices.{takes, TakesBeside, IsChain, HasClimbed, IsChosen, IsSolved}
 use Rattle.table_steps.proofs.LadderSumLemmas.{sum_same, tops_sum}
 use Rattle.table_steps.proofs.LadderLimitLemmas.{ladder_limited, ladders_differ}
-use Rattle.table_steps.proofs.LadderNumberLemmas.{stand_from_rise, potentials_fit, usable_above_0}
+use Rattle.table_steps.proofs.LadderPotentialLemmas.{stand_from_rise, potentials_fit, usable_above_0}
 
 -- ---- Beside the ladders.
 

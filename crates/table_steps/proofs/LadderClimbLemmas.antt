@@ -13,10 +13,10 @@ use Rattle.offer_model.specs.LeafBounds.{Rises, ladder_of, ladder_top}
 use Rattle.offer_model.proofs.PotentialLemmas.{top_le}
 use Rattle.linear_step.specs.Closings.{number_bound}
 use Rattle.table_steps.specs.LadderRungs.{RungsData, AreRungs}
-use Rattle.table_steps.specs.LadderNumbers.{Follows, IsGreatestAfter, RisesTo, IsAbove, AreSums}
+use Rattle.table_steps.specs.LadderPotentials.{Follows, IsGreatestAfter, RisesTo, IsAbove, AreSums}
 use Rattle.table_steps.specs.LadderChoices.{IsChain, HasClimbed}
 use Rattle.table_steps.proofs.LadderSumLemmas.{worth_set}
-use Rattle.table_steps.proofs.LadderNumberLemmas.{rises_where}
+use Rattle.table_steps.proofs.LadderPotentialLemmas.{rises_where}
 
 -- a is the last of a chain, or rises to it.
 abbrev pub EndsAt : Option Product → Product → Type 0

@@ -3,6 +3,6 @@ pub mod ShelfStepLemmas
 pub mod LadderSumLemmas
 pub mod LadderLimitLemmas
 pub mod LadderRungLemmas
-pub mod LadderNumberLemmas
+pub mod LadderPotentialLemmas
 pub mod LadderClimbLemmas
 pub mod LadderAnswerLemmas

@@ -1,6 +1,6 @@
 pub mod ShelfFits
 pub mod ShelfReading
 pub mod LadderRungs
-pub mod LadderNumbers
+pub mod LadderPotentials
 pub mod LadderChoices
 pub mod LadderFits

@@ -8,10 +8,10 @@ ghost use Rattle.linear_step.specs.Closings.{number_bound};
 ghost use Rattle.linear_step.specs.Weights.{AreWeights, weight_at, prices_of};
 ghost use Rattle.table_steps.specs.LadderRungs.{AreRungs};
 ghost use Rattle.table_steps.specs.LadderFits.{AreLadders, AreLimited};
-ghost use Rattle.table_steps.specs.LadderNumbers.{Follows, AreSums, ArePotentials};
+ghost use Rattle.table_steps.specs.LadderPotentials.{Follows, AreSums, ArePotentials};
 ghost use Rattle.table_steps.specs.LadderChoices.{takes, TakesBeside, HasClimbed, IsChosen, IsSolved};
 
-use crate::ladder_numbers::{follows, greatest_after, raise_all};
+use crate::ladder_potentials::{follows, greatest_after, raise_all};
 use crate::ladder_rungs::Rungs;
 use limit_rules::clashes;
 use linear_step::Weights;

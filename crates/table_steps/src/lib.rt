@@ -3,7 +3,7 @@
 
 mod ladder;
 mod ladder_choice;
-mod ladder_numbers;
+mod ladder_potentials;
 mod ladder_rungs;
 mod shelf;
 mod shelf_parts;

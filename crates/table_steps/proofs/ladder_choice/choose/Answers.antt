@@ -3,7 +3,7 @@ use Rattle.linear_step.specs.Weights.{weight_at, prices_of}
 use Rattle.table_steps.specs.LadderRungs.{AreRungs}
 use Rattle.table_steps.specs.LadderChoices.{HasClimbed}
 use Rattle.table_steps.proofs.LadderLimitLemmas.{rungs_read}
-use Rattle.table_steps.proofs.LadderNumberLemmas.{potentials_sums}
+use Rattle.table_steps.proofs.LadderPotentialLemmas.{potentials_sums}
 use Rattle.table_steps.proofs.LadderAnswerLemmas.{chosen_start, chosen_more, next_free}
 use Rattle.table_steps.proofs.ladder_choice.choose.Goals as goal
 

@@ -2,7 +2,7 @@ use Rattle.std.proofs.Common.{◌≡◌, pos, ◌-ℤ◌, true, false, rules, sy
 use Rattle.std.specs.Prelude.{None}
 use Rattle.offer_model.specs.Problems.{product_at}
 use Rattle.linear_step.specs.Weights.{weight_at, prices_of}
-use Rattle.table_steps.specs.LadderNumbers.{IsGreatestAfter}
+use Rattle.table_steps.specs.LadderPotentials.{IsGreatestAfter}
 use Rattle.table_steps.proofs.LadderRungLemmas.{product_read}
 use Rattle.table_steps.proofs.LadderClimbLemmas.{climb_start, climb_on, climb_skipped, climb_last}
 use Rattle.table_steps.proofs.ladder_choice.climb.Goals as goal

@@ -2,8 +2,8 @@ use Rattle.std.proofs.Common.{◌≡◌, ◌∙◌, ◌<◌, ◌-◌, ◌*◌, a
 use Rattle.std.proofs.lemmas.List.{length-set, get_or-set_other}
 use Rattle.linear_step.specs.Weights.{weight_at, price_bound}
 use Rattle.offer_model.specs.LeafBounds.{ladder_of}
-use Rattle.table_steps.proofs.LadderNumberLemmas.{raised_more, small_more, raised_end}
-use Rattle.table_steps.proofs.ladder_numbers.raise.Goals as goal
+use Rattle.table_steps.proofs.LadderPotentialLemmas.{raised_more, small_more, raised_end}
+use Rattle.table_steps.proofs.ladder_potentials.raise.Goals as goal
 
 pub loop-k-preserved : goal.loop-k-preserved
 loop-k-preserved c =

@@ -2,10 +2,10 @@ use Rattle.std.proofs.Common.{◌≡◌, true, rules, subst, sym}
 use Rattle.offer_model.specs.LeafBounds.{is_limited}
 use Rattle.linear_step.specs.Weights.{weight_at}
 use Rattle.table_steps.specs.LadderRungs.{AreRungs}
-use Rattle.table_steps.specs.LadderNumbers.{HasRaised}
+use Rattle.table_steps.specs.LadderPotentials.{HasRaised}
 use Rattle.table_steps.proofs.LadderLimitLemmas.{ladder_limited, rungs_read}
-use Rattle.table_steps.proofs.LadderNumberLemmas.{raised_all_more, raised_last}
-use Rattle.table_steps.proofs.ladder_numbers.raise_all.Goals as goal
+use Rattle.table_steps.proofs.LadderPotentialLemmas.{raised_all_more, raised_last}
+use Rattle.table_steps.proofs.ladder_potentials.raise_all.Goals as goal
 
 pub raise-requires-clause-rungs : goal.raise-requires-clause-rungs
 raise-requires-clause-rungs c =

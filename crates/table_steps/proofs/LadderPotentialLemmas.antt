@@ -16,7 +16,7 @@ use Rattle.offer_model.specs.LeafBounds.{IsUsable, Rises, PotentialsFit, is_limi
 use Rattle.linear_step.specs.Weights.{price_bound, IsWithin}
 use Rattle.table_steps.specs.LadderRungs.{RungsData, AreRungs, rungs_at}
 use Rattle.table_steps.specs.LadderFits.{AreLadders}
-use Rattle.table_steps.specs.LadderNumbers.{Follows, StandsBeside, IsGreatestAfter, RisesTo, IsAbove, IsPotential, HasRaised, AreRaised, ArePotentials, AreSums}
+use Rattle.table_steps.specs.LadderPotentials.{Follows, StandsBeside, IsGreatestAfter, RisesTo, IsAbove, IsPotential, HasRaised, AreRaised, ArePotentials, AreSums}
 use Rattle.table_steps.proofs.LadderLimitLemmas.{ladder_where, ladder_limited}
 
 -- ---- Products that stand together.

@@ -3,10 +3,10 @@ use Rattle.std.specs.Prelude.{Some}
 use Rattle.offer_model.specs.Prices.{positive_part}
 use Rattle.offer_model.specs.Problems.{product_at}
 use Rattle.linear_step.specs.Weights.{weight_at}
-use Rattle.table_steps.specs.LadderNumbers.{IsGreatestAfter}
+use Rattle.table_steps.specs.LadderPotentials.{IsGreatestAfter}
 use Rattle.table_steps.proofs.LadderRungLemmas.{product_read}
-use Rattle.table_steps.proofs.LadderNumberLemmas.{potential_is, potential_small}
-use Rattle.table_steps.proofs.ladder_numbers.potential.Goals as goal
+use Rattle.table_steps.proofs.LadderPotentialLemmas.{potential_is, potential_small}
+use Rattle.table_steps.proofs.ladder_potentials.potential.Goals as goal
 
 pub returns-clause-value : goal.returns-clause-value
 returns-clause-value c =

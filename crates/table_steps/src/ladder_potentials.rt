@@ -6,7 +6,7 @@ ghost use Rattle.offer_model.specs.LeafBounds.{is_limited, IsUsable};
 ghost use Rattle.linear_step.specs.Weights.{AreWeights, weight_at, price_bound};
 ghost use Rattle.table_steps.specs.LadderRungs.{AreRungs};
 ghost use Rattle.table_steps.specs.LadderFits.{AreLadders};
-ghost use Rattle.table_steps.specs.LadderNumbers.{Follows, StandsBeside, IsGreatestAfter, IsPotential, HasRaised, ArePotentials};
+ghost use Rattle.table_steps.specs.LadderPotentials.{Follows, StandsBeside, IsGreatestAfter, IsPotential, HasRaised, ArePotentials};
 
 use crate::ladder_rungs::Rungs;
 use linear_step::Weights;

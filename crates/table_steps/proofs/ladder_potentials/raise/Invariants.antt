@@ -3,8 +3,8 @@ use Rattle.std.specs.Prelude.{slice_index}
 use Rattle.offer_model.specs.Problems.{product_count}
 use Rattle.offer_model.specs.LeafBounds.{ladder_of}
 use Rattle.linear_step.specs.Weights.{weight_at, price_bound}
-use Rattle.table_steps.specs.LadderNumbers.{IsPotential}
-use Rattle.table_steps.proofs.ladder_numbers.raise.Given as goal
+use Rattle.table_steps.specs.LadderPotentials.{IsPotential}
+use Rattle.table_steps.proofs.ladder_potentials.raise.Given as goal
 
 abbrev pub invariant-loop-k : goal.invariant-loop-k
 invariant-loop-k l = record {
