@@ -10,49 +10,52 @@ use Rattle.offer_io.specs.MemoryStores.{shelf_view}
 use Rattle.offer_io.proofs.EntryLemmas.{others_added, content_added, name_added, first_added, nothing_grew, piece_grew, others_written, content_written, first_written, name_after}
 
 -- An append that fails at once.
-pub append_stays : {T E : Type 0} (files : List Entry) (input : Option (ℕ × ℕ)) (output : Option ℕ) (place before now : ℕ) (piece : List ℕ) (e : E)
+pub append_stays : {T E : Type 0} (files : List Entry) (input : Option (ℕ × ℕ)) (output : Option ℕ) (sealed : Bool) (place before now : ℕ) (piece : List ℕ) (e : E)
     → output ≡ Some place → IsFirst files place → before ≤ now → Rose before now
-    → Appends {T = T} {E = E} (shelf_view files input output before) piece (Err e) (shelf_view files input output now)
-append_stays files input output place before now piece e is first later rose = rw is (record {
+    → Appends {T = T} {E = E} (shelf_view files input output sealed before) piece (Err e) (shelf_view files input output sealed now)
+append_stays files input output sealed place before now piece e is first later rose = rw is (record {
   others = λ _ other differs. refl;
   output = λ _. refl;
   whole = λ _. tt;
   part = λ _. nothing_grew files place piece first;
   reading = refl;
   writing = refl;
+  sealed = refl;
   cause = record { later = later; failed = rose };
   ready = λ h. cc;
   stays = record { tells = refl; steady = refl; held = refl };
 })
 
 -- An append that adds its piece.
-pub append_grows : {T E : Type 0} (files new : List Entry) (input : Option (ℕ × ℕ)) (output : Option ℕ) (place faults : ℕ) (piece : List ℕ) (t : T)
+pub append_grows : {T E : Type 0} (files new : List Entry) (input : Option (ℕ × ℕ)) (output : Option ℕ) (sealed : Bool) (place faults : ℕ) (piece : List ℕ) (t : T)
     → output ≡ Some place → IsFirst files place → IsWritten files place new (content_at files place ++ piece)
-    → Appends {T = T} {E = E} (shelf_view files input output faults) piece (Ok t) (shelf_view new input output faults)
-append_grows files new input output place faults piece t is first written = rw is (record {
+    → Appends {T = T} {E = E} (shelf_view files input output sealed faults) piece (Ok t) (shelf_view new input output sealed faults)
+append_grows files new input output sealed place faults piece t is first written = rw is (record {
   others = λ _ other differs. others_written files new place _ other first.inside written differs;
   output = λ _. name_after files new place _ first written;
   whole = λ _. piece_grew files new place piece first written;
   part = λ _. tt;
   reading = refl;
   writing = refl;
+  sealed = refl;
   cause = record { later = omega arith; failed = tt };
   ready = λ h. cc;
   stays = record { tells = refl; steady = refl; held = refl };
 })
 
 -- An append that finds no memory.
-pub append_fails : {T E : Type 0} (files new : List Entry) (input : Option (ℕ × ℕ)) (output : Option ℕ) (place before now : ℕ) (piece : List ℕ) (e : E)
+pub append_fails : {T E : Type 0} (files new : List Entry) (input : Option (ℕ × ℕ)) (output : Option ℕ) (sealed : Bool) (place before now : ℕ) (piece : List ℕ) (e : E)
     → output ≡ Some place → IsFirst files place → IsWritten files place new (content_at files place ++ [])
     → before ≤ now → Rose before now
-    → Appends {T = T} {E = E} (shelf_view files input output before) piece (Err e) (shelf_view new input output now)
-append_fails files new input output place before now piece e is first written later rose = rw is (record {
+    → Appends {T = T} {E = E} (shelf_view files input output sealed before) piece (Err e) (shelf_view new input output sealed now)
+append_fails files new input output sealed place before now piece e is first written later rose = rw is (record {
   others = λ _ other differs. others_written files new place _ other first.inside written differs;
   output = λ _. name_after files new place _ first written;
   whole = λ _. tt;
   part = λ _. (0, piece_grew files new place [] first written);
   reading = refl;
   writing = refl;
+  sealed = refl;
   cause = record { later = later; failed = rose };
   ready = λ h. cc;
   stays = record { tells = refl; steady = refl; held = refl };
@@ -73,30 +76,32 @@ places_stay files new input output place bytes is first written there =
         rw (← k) (first_written files new place bytes first written)
 
 -- A create in place of a file that is there.
-pub create_empties : {T E : Type 0} (files new : List Entry) (input : Option (ℕ × ℕ)) (output : Option ℕ) (place faults : ℕ) (name : List ℕ) (t : T)
+pub create_empties : {T E : Type 0} (files new : List Entry) (input : Option (ℕ × ℕ)) (output : Option ℕ) (sealed : Bool) (place faults : ℕ) (name : List ℕ) (t : T)
     → name_at files place ≡ name → IsFirst files place → IsWritten files place new []
-    → Creates {T = T} {E = E} (shelf_view files input output faults) name (Ok t) (shelf_view new input (Some place) faults)
-create_empties files new input output place faults name t is first written = record {
+    → Creates {T = T} {E = E} (shelf_view files input output sealed faults) name (Ok t) (shelf_view new input (Some place) false faults)
+create_empties files new input output sealed place faults name t is first written = record {
   others = λ _ other differs. others_written files new place _ other first.inside written (λ e. differs (e ∙ is));
   made = λ _. (rw (← is) (content_written files new place [] first written), name_after files new place [] first written ∙ is);
   failed = λ _. tt;
   reading = refl;
   writing = refl;
+  sealed = refl;
   cause = record { later = omega arith; failed = tt };
   ready = λ h. cc;
   stays = record { tells = refl; steady = refl; held = refl };
 }
 
 -- A create of a new name.
-pub create_adds : {T E : Type 0} (files new : List Entry) (input : Option (ℕ × ℕ)) (output : Option ℕ) (faults : ℕ) (name : List ℕ) (t : T)
+pub create_adds : {T E : Type 0} (files new : List Entry) (input : Option (ℕ × ℕ)) (output : Option ℕ) (sealed : Bool) (faults : ℕ) (name : List ℕ) (t : T)
     → content_of files name ≡ None → IsAdded files name [] new
-    → Creates {T = T} {E = E} (shelf_view files input output faults) name (Ok t) (shelf_view new input (Some (length files)) faults)
-create_adds files new input output faults name t none added = record {
+    → Creates {T = T} {E = E} (shelf_view files input output sealed faults) name (Ok t) (shelf_view new input (Some (length files)) false faults)
+create_adds files new input output sealed faults name t none added = record {
   others = λ _ other differs. others_added files new name [] other added differs;
   made = λ _. (content_added files new name [] none added, name_added files new name [] added);
   failed = λ _. tt;
   reading = refl;
   writing = refl;
+  sealed = refl;
   cause = record { later = omega arith; failed = tt };
   ready = λ h. cc;
   stays = record { tells = refl; steady = refl; held = refl };

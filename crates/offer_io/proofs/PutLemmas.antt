@@ -1,5 +1,5 @@
 -- What putting a file into a list of files changes.
-use Rattle.std.proofs.Common.{◌≡◌, ◌≢◌, ◌∙◌, sym, ap, refl, arith, ℕ, ◌+◌, ◌<◌, ◌≤◌, ◌⊎◌, inl, inr, List, [], ◌∷◌, length, true, false, eqb, Option, Some, None, slice_index_or, length-set, Result, Ok, Err, OnOk, OnErr}
+use Rattle.std.proofs.Common.{◌≡◌, ◌≢◌, ◌∙◌, sym, ap, refl, arith, ℕ, ◌+◌, ◌<◌, ◌≤◌, ◌⊎◌, inl, inr, List, [], ◌∷◌, length, Bool, true, false, eqb, Option, Some, None, slice_index_or, length-set, Result, Ok, Err, OnOk, OnErr}
 use Rattle.std.proofs.lemmas.Grind.{common_steps}
 use Rattle.std.proofs.lemmas.List.{get_or-set_other, get_or_append_left}
 use Rattle.std.proofs.lemmas.Bool.{ne_eqb}
@@ -143,10 +143,10 @@ output_put files new keeps None first = refl
 output_put files new keeps (Some i) first = keeps.names i (first i refl).inside
 
 -- what a store in memory tells after a file was put
-pub view_put : (files new : List Entry) (input : Option (ℕ × ℕ)) (output : Option ℕ) (faults : ℕ) (name bytes : List ℕ)
+pub view_put : (files new : List Entry) (input : Option (ℕ × ℕ)) (output : Option ℕ) (sealed : Bool) (faults : ℕ) (name bytes : List ℕ)
     → IsPut files name bytes new → KeepsPlaces files new → ForSome output (IsFirst files)
-    → Puts (shelf_view files input output faults) name bytes (shelf_view new input output faults)
-view_put files new input output faults name bytes put keeps first = record {
+    → Puts (shelf_view files input output sealed faults) name bytes (shelf_view new input output sealed faults)
+view_put files new input output sealed faults name bytes put keeps first = record {
   there = put.there;
   others = put.others;
   rest = rw (output_put files new keeps output first) refl;

@@ -16,6 +16,7 @@ host_view s = record {
   output = [];
   reading = is_some s.input;
   writing = is_some s.output;
+  sealed = s.sealed;
   faults = s.faults;
   steady = false;
   held = [];

@@ -1,5 +1,5 @@
 -- What a store in memory tells, and what putting a file there does. Own.
-use Rattle.std.specs.Prelude.{◌≡◌, ◌⊎◌, ℕ, true, false, List, [], Option, Some, None, is_some, IsTrue, Result}
+use Rattle.std.specs.Prelude.{◌≡◌, ◌⊎◌, ℕ, Bool, true, false, List, [], Option, Some, None, is_some, IsTrue, Result}
 use Rattle.std.specs.Option.{option_map_or}
 use Rattle.offer_io.specs.declared.memory.MemoryStore.{MemoryStore}
 use Rattle.offer_io.specs.declared.entries.Entry.{Entry}
@@ -8,15 +8,17 @@ use Rattle.offer_io.specs.Plans.{CallPlan, fails_next, plan_after}
 use Rattle.offer_io.specs.Causes.{count_after}
 use Rattle.offer_io.specs.Stores.{StoreView, OthersStay}
 
--- The view of files, of the place of the input and in it, of the place of the output, and of a count of faults.
-abbrev pub shelf_view : List Entry → Option (ℕ × ℕ) → Option ℕ → ℕ → StoreView
-shelf_view files input output faults = record {
+-- The view of files, of the place of the input and in it, of the place of the output, of whether the last one was ended, and
+-- of a count of faults.
+abbrev pub shelf_view : List Entry → Option (ℕ × ℕ) → Option ℕ → Bool → ℕ → StoreView
+shelf_view files input output sealed faults = record {
   tells = true;
   file = content_of files;
   left = left_of files input;
   output = option_map_or (name_at files) output [];
   reading = is_some input;
   writing = is_some output;
+  sealed = sealed;
   faults = faults;
   steady = false;
   held = [];
@@ -24,7 +26,7 @@ shelf_view files input output faults = record {
 
 -- A store in memory tells all.
 abbrev pub memory_view : MemoryStore → StoreView
-memory_view s = shelf_view s.files.items s.input s.output s.faults
+memory_view s = shelf_view s.files.items s.input s.output s.sealed s.faults
 
 -- The calls of a store in memory that were given to fail.
 abbrev pub store_plan : MemoryStore → CallPlan
@@ -39,6 +41,7 @@ empty_view = record {
   output = [];
   reading = false;
   writing = false;
+  sealed = false;
   faults = 0;
   steady = false;
   held = [];

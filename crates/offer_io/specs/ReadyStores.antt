@@ -14,6 +14,7 @@ ready_view s = record {
   output = [];
   reading = is_some s.input;
   writing = s.writing;
+  sealed = s.sealed;
   faults = s.faults;
   steady = true;
   held = names_of s.files.items;
@@ -21,7 +22,7 @@ ready_view s = record {
 
 -- What the store has, though it doesn't tell it: the same as a store in memory without an open output.
 abbrev pub shelf_of : ReadyStore → StoreView
-shelf_of s = shelf_view s.files.items s.input None s.faults
+shelf_of s = shelf_view s.files.items s.input None false s.faults
 
 -- A store that holds nothing.
 abbrev pub new_ready : StoreView
@@ -32,6 +33,7 @@ new_ready = record {
   output = [];
   reading = false;
   writing = false;
+  sealed = false;
   faults = 0;
   steady = true;
   held = [];

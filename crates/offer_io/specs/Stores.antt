@@ -4,7 +4,7 @@ use Rattle.offer_io.specs.Causes.{HasCause}
 
 -- A store, as contracts see it. Where it tells its content, `file` is what stands under each name, `left` what is left
 -- of the open input, and `output` the name of the open output, whose content stands under that name. Where it doesn't,
--- these three mean nothing.
+-- these three mean nothing. `sealed` says that the output that was made last was ended without a failure.
 pub record StoreView : Type 0 where
   pub tells : Bool
   pub file : List ℕ → Option (List ℕ)
@@ -12,6 +12,7 @@ pub record StoreView : Type 0 where
   pub output : List ℕ
   pub reading : Bool
   pub writing : Bool
+  pub sealed : Bool
   pub faults : ℕ
   pub steady : Bool
   pub held : List (List ℕ)
@@ -37,6 +38,7 @@ pub record Opens {T E : Type 0} (old : StoreView) (name : List ℕ) (result : Re
   pub left : IsTrue old.tells → OnOk result (old.file name ≡ Some new.left)
   pub reading : new.reading ≡ is_ok result
   pub writing : new.writing ≡ old.writing
+  pub sealed : new.sealed ≡ old.sealed
   pub cause : HasCause old.faults new.faults result
   pub ready : IsTrue old.steady → Contains old.held name → IsOk result
   pub stays : Stays old new
@@ -51,6 +53,7 @@ pub record Reads {E : Type 0} (old : StoreView) (result : Result ℕ E) (piece :
   pub skipped : IsTrue old.tells → OnErr result ((gone : List ℕ) × (old.left ≡ gone ++ new.left))
   pub reading : new.reading ≡ true
   pub writing : new.writing ≡ old.writing
+  pub sealed : new.sealed ≡ old.sealed
   pub cause : HasCause old.faults new.faults result
   pub ready : IsTrue old.steady → IsOk result
   pub stays : Stays old new
@@ -63,6 +66,7 @@ pub record Creates {T E : Type 0} (old : StoreView) (name : List ℕ) (result : 
   pub failed : IsTrue old.tells → OnErr result ((new.file name ≡ old.file name) ⊎ (new.file name ≡ Some []))
   pub reading : new.reading ≡ old.reading
   pub writing : new.writing ≡ is_ok result
+  pub sealed : new.sealed ≡ false
   pub cause : HasCause old.faults new.faults result
   pub ready : IsTrue old.steady → IsOk result
   pub stays : Stays old new
@@ -80,6 +84,7 @@ pub record Appends {T E : Type 0} (old : StoreView) (piece : List ℕ) (result :
       → OnErr result ((n : ℕ) × Grows (old.file old.output) (take n piece) (new.file old.output))
   pub reading : new.reading ≡ old.reading
   pub writing : new.writing ≡ true
+  pub sealed : new.sealed ≡ old.sealed
   pub cause : HasCause old.faults new.faults result
   pub ready : IsTrue old.steady → IsOk result
   pub stays : Stays old new
@@ -90,6 +95,7 @@ pub record Seals {T E : Type 0} (old : StoreView) (result : Result T E) (new : S
   pub left : IsTrue old.tells → new.left ≡ old.left
   pub reading : new.reading ≡ old.reading
   pub writing : new.writing ≡ false
+  pub sealed : new.sealed ≡ is_ok result
   pub cause : HasCause old.faults new.faults result
   pub ready : IsTrue old.steady → IsOk result
   pub stays : Stays old new

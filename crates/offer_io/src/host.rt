@@ -17,6 +17,7 @@ pub struct HostStore<'a, R: Files> {
     rt: &'a R,
     input: Option<R::File>,
     output: Option<R::File>,
+    sealed: bool,
     faults: u64,
 }
 
@@ -30,6 +31,7 @@ impl<'a, R: Files> HostStore<'a, R> {
             rt,
             input: None,
             output: None,
+            sealed: false,
             faults: 0,
         }
     }
@@ -95,6 +97,7 @@ impl<'a, R: Files> Store for HostStore<'a, R> {
         ensures faults { (host_view self.new).faults
             ≡ count_after result (host_view self.old).faults }
     {
+        self.sealed = false;
         match fs::create(self.rt, name) {
             Ok(file) => {
                 self.output = Some(file);
@@ -133,6 +136,7 @@ impl<'a, R: Files> Store for HostStore<'a, R> {
             ≡ count_after result (host_view self.old).faults }
     {
         self.output = None;
+        self.sealed = true;
         Ok(())
     }
 }

@@ -21,6 +21,7 @@ pub struct MemoryStore {
     // The place of the file in the list, and the place in the file: to open a file takes no memory.
     input: Option<(usize, usize)>,
     output: Option<usize>,
+    sealed: bool,
     plan: Plan,
     faults: u64,
     ghost input_there: { ForSome input (λ p. p.0 < length files.items) },
@@ -40,6 +41,7 @@ impl MemoryStore {
             files: Vec::new(alloc),
             input: None,
             output: None,
+            sealed: false,
             plan: Plan::new(alloc),
             faults: 0,
         }
@@ -136,6 +138,7 @@ impl Store for MemoryStore {
         ensures counted { Counts self.old result self.new }
     {
         self.output = None;
+        self.sealed = false;
         if self.plan.fails_now() {
             self.faults = self.faults.saturating_add(1);
             return Err(Failed);
@@ -186,7 +189,8 @@ impl Store for MemoryStore {
         ensures counted { Counts self.old result self.new }
     {
         self.output = None; // what was written stands
-        if self.plan.fails_now() {
+        self.sealed = !self.plan.fails_now();
+        if !self.sealed {
             self.faults = self.faults.saturating_add(1);
             return Err(Failed);
         }

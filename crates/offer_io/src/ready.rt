@@ -17,6 +17,7 @@ pub struct ReadyStore {
     files: Vec<Entry>,
     input: Option<(usize, usize)>,
     writing: bool,
+    sealed: bool,
     faults: u64,
     ghost input_there: { ForSome input (λ p. p.0 < length files.items) },
 }
@@ -35,6 +36,7 @@ impl ReadyStore {
             files: Vec::new(alloc),
             input: None,
             writing: false,
+            sealed: false,
             faults: 0,
         }
     }
@@ -100,6 +102,7 @@ impl Store for ReadyStore {
     {
         let _ = name;
         self.writing = true;
+        self.sealed = false;
         Ok(())
     }
 
@@ -120,6 +123,7 @@ impl Store for ReadyStore {
         ensures faults { (ready_view self.new).faults ≡ (ready_view self.old).faults }
     {
         self.writing = false;
+        self.sealed = true;
         Ok(())
     }
 }

@@ -9,4 +9,4 @@ invariant_of-self c =
 pub returns-clause-ok : goal.returns-clause-ok
 returns-clause-ok c =
     let put = rw c.as_bytes.ensures.value at c.in_ok-put_file.ensures.ok in
-    view_put _ _ _ _ _ _ _ put c.put_file.ensures.places c.args.self.now.output_there
+    view_put _ _ _ _ _ _ _ _ put c.put_file.ensures.places c.args.self.now.output_there

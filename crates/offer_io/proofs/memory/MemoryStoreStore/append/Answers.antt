@@ -5,7 +5,7 @@ use Rattle.offer_io.proofs.memory.MemoryStoreStore.append.Goals as goal
 
 pub returns-then-fails_now-clause-appends : goal.returns-then-fails_now-clause-appends
 returns-then-fails_now-clause-appends c =
-    append_stays _ _ _ c.in-Some.place _ _ _ _ c.in-Some.is (c.args.self.now.output_there c.in-Some.place c.in-Some.is) (search rules) (search rules)
+    append_stays _ _ _ _ c.in-Some.place _ _ _ _ c.in-Some.is (c.args.self.now.output_there c.in-Some.place c.in-Some.is) (search rules) (search rules)
 
 pub invariant_of-self-then-is_err : goal.invariant_of-self-then-is_err
 invariant_of-self-then-is_err c =
@@ -20,9 +20,9 @@ invariant_of-self-else-is_err c =
 pub returns-then-is_err-clause-appends : goal.returns-then-is_err-clause-appends
 returns-then-is_err-clause-appends c =
     let bad : is_ok c.grow_at.result ≡ false = search rules in
-    append_fails _ _ _ _ c.in-Some.place _ _ _ _ c.in-Some.is (c.args.self.now.output_there c.in-Some.place c.in-Some.is) (rw bad at c.grow_at.ensures) (search rules) (search rules)
+    append_fails _ _ _ _ _ c.in-Some.place _ _ _ _ c.in-Some.is (c.args.self.now.output_there c.in-Some.place c.in-Some.is) (rw bad at c.grow_at.ensures) (search rules) (search rules)
 
 pub returns-clause-appends : goal.returns-clause-appends
 returns-clause-appends c =
     let good : is_ok c.grow_at.result ≡ true = search rules in
-    append_grows _ _ _ _ c.in-Some.place _ _ _ c.in-Some.is (c.args.self.now.output_there c.in-Some.place c.in-Some.is) (rw good at c.grow_at.ensures)
+    append_grows _ _ _ _ _ c.in-Some.place _ _ _ c.in-Some.is (c.args.self.now.output_there c.in-Some.place c.in-Some.is) (rw good at c.grow_at.ensures)

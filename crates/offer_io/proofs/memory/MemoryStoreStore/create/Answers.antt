@@ -10,7 +10,7 @@ pub returns-in-Some-clause-creates : goal.returns-in-Some-clause-creates
 returns-in-Some-clause-creates c =
     let at : position (is_named c.args.name.now) c.args.self.now.files.items ≡ Some c.in-Some.place = search rules in
     let f = found c.args.self.now.files.items c.args.name.now c.in-Some.place at in
-    create_empties _ _ _ _ c.in-Some.place _ _ _ f.0 f.1 c.empty_at.ensures
+    create_empties _ _ _ _ _ c.in-Some.place _ _ _ f.0 f.1 c.empty_at.ensures
 
 pub invariant_of-self-in-Some : goal.invariant_of-self-in-Some
 invariant_of-self-in-Some c =
@@ -26,7 +26,7 @@ returns-else-is_err-clause-creates c =
     let good : is_ok c.add_file.result ≡ true = search rules in
     let added = rw (c.as_bytes-in-None.ensures.value, c.new-empty.ensures.items) at (of_ok c.add_file.result _ good c.add_file.ensures.ok) in
     let long : c.len-place.result ≡ length c.args.self.now.files.items = search rules in
-    rw long (create_adds _ _ _ _ _ _ _ none added)
+    rw long (create_adds _ _ _ _ _ _ _ _ none added)
 
 pub invariant_of-self-in-None : goal.invariant_of-self-in-None
 invariant_of-self-in-None c =

@@ -11,4 +11,4 @@ returns-clause-ok c =
 pub returns-clause-shelf : goal.returns-clause-shelf
 returns-clause-shelf c =
     let put = rw c.as_bytes.ensures.value at c.in_ok-put_file.ensures.ok in
-    view_put _ _ _ None _ _ _ put c.put_file.ensures.places (λ i e. absurd (cc e))
+    view_put _ _ _ None _ _ _ _ put c.put_file.ensures.places (λ i e. absurd (cc e))
