@@ -5,23 +5,23 @@ use Rattle.offer_model.specs.Problems.{ProblemData}
 use Rattle.offer_io.specs.Stores.{StoreView, Passes}
 use Rattle.proof_lines.specs.Acceptance.{Accepts}
 use Rattle.assort_words.specs.declared.usage.Command.TheVariants.{Solve, Check}
-use Rattle.assort_core.specs.declared.check.TheConstants.{MOST_PROOF}
 use Rattle.assort_words.specs.Asked.{RequestData}
 use Rattle.assort_core.specs.Judged.{InputsData, asked_problem, proof_name}
-use Rattle.assort_core.specs.Outcomes.{IsAnswerTo, IsVerdict, answer, accepted_report, rejected_report}
-use Rattle.assort_core.specs.Runs.{Gives, AsksForProof, OthersStand, ProofStands, ProofMayStand, FilesStand, Endures}
+use Rattle.assort_core.specs.Outcomes.{IsAnswerTo, IsVerdict, answer, accepted_report, rejected_report, most_proof}
+use Rattle.assort_core.proofs.InputLemmas.{files_stand}
+use Rattle.assort_core.specs.Runs.{Gives, AsksForProof, OthersStand, ProofStands, ProofMayStand, ProofIsSealed, Endures}
 
 pub asks_none : (r : RequestData) (name : List ℕ) → r.command ≡ Check → AsksForProof r name → ⊥
 asks_none r name check asks = let e : Solve ≡ Check = sym asks.command ∙ check in cc
-
-pub files_stand : (old new : StoreView) → Passes old new → FilesStand old new
-files_stand old new passes = λ told other. ap (λ (f : List ℕ → _). f other) (passes.files told).file
 
 pub check_others : (r : RequestData) (old new : StoreView) → Passes old new → OthersStand r old new
 check_others r old new passes = λ told other free. files_stand old new passes told other
 
 pub check_proof : (r : RequestData) (old new : StoreView) → r.command ≡ Check → ProofStands r old new
 check_proof r old new check = λ told name asks. absurd (asks_none r name check asks)
+
+pub check_sealed : (r : RequestData) (new : StoreView) → r.command ≡ Check → ProofIsSealed r new
+check_sealed r new check = λ name asks. absurd (asks_none r name check asks)
 
 pub check_part : (r : RequestData) (old new : StoreView) → r.command ≡ Check → ProofMayStand r old new
 check_part r old new check = λ told name asks. absurd (asks_none r name check asks)
@@ -32,7 +32,7 @@ check_endures old new passes = record { later = passes.later; stays = passes.sta
 pub both : {A B C : Type 0} → (A ↔ B) → (B ↔ C) → (A ↔ C)
 both f g = (λ a. g.0 (f.0 a), λ c. f.1 (g.1 c))
 
-verdict_of : (b : Bool) (p : ProblemData) (text report : List ℕ) (status : ℕ) → length text ≤ MOST_PROOF → (IsTrue b ↔ Accepts p text)
+verdict_of : (b : Bool) (p : ProblemData) (text report : List ℕ) (status : ℕ) → length text ≤ most_proof → (IsTrue b ↔ Accepts p text)
     → status ≡ (if b then 0 else 1) → report ≡ (if b then accepted_report else rejected_report) → IsVerdict p text (answer status report)
 verdict_of true p text report status fits told s e = inr (inl (fits, told.0 refl, rw (s, e) refl))
 verdict_of false p text report status fits told s e = inr (inr (fits, λ a. let f : IsTrue false = told.1 a in cc, rw (s, e) refl))
@@ -41,7 +41,7 @@ verdict_of false p text report status fits told s e = inr (inr (fits, λ a. let 
 pub check_answer : (r : RequestData) (old mid : StoreView) (i : InputsData) (p : ProblemData) (name text report : List ℕ) (b : Bool) (status : ℕ)
     → r.command ≡ Check → Some name ≡ r.proof → p ≡ asked_problem r i → Passes old mid
     → (IsTrue old.tells → Gives r old i)
-    → (IsTrue mid.tells → mid.file name ≡ Some text) → length text ≤ MOST_PROOF → (IsTrue b ↔ Accepts p text)
+    → (IsTrue mid.tells → mid.file name ≡ Some text) → length text ≤ most_proof → (IsTrue b ↔ Accepts p text)
     → status ≡ (if b then 0 else 1) → report ≡ (if b then accepted_report else rejected_report)
     → IsTrue old.tells → IsAnswerTo r old.file (answer status report)
 check_answer r old mid i p name text report b status check proof is passes has content fits accepted s e told =

@@ -1,12 +1,12 @@
 -- What the files of a request give, from what was loaded and read.
-use Rattle.std.proofs.Common.{◌≡◌, arith, subst, sym, refl, ℕ, ◌<◌, ◌≤◌, List, length, true, false, nat_le, Option, Some, Result, Ok, Err}
+use Rattle.std.proofs.Common.{◌≡◌, ◌∙◌, arith, subst, sym, refl, ap, ℕ, ◌<◌, ◌≤◌, List, length, true, false, nat_le, Option, Some, Result, Ok, Err}
 use Rattle.catalogue.specs.declared.faults.Code.{Code}
 use Rattle.offer_model.specs.declared.products.ModelName.{ModelName}
 use Rattle.catalogue.specs.declared.faults.FileName.{FileName}
 use Rattle.catalogue.specs.declared.faults.FileName.TheVariants.{Products, Limits, Segments, Arcs, Proof, Offer}
 use Rattle.catalogue.specs.declared.faults.InputFault.{InputFault}
 use Rattle.catalogue.specs.declared.faults.InputFault.TheVariants.{Fault}
-use Rattle.catalogue.specs.declared.products.TheConstants.{MOST_TABLE}
+use Rattle.catalogue.specs.Sizes.{most_table}
 use Rattle.catalogue.specs.Faults.{OnFault}
 use Rattle.catalogue.specs.ProductTables.{products_outcome}
 use Rattle.catalogue.specs.LimitTables.{limits_outcome}
@@ -16,7 +16,7 @@ use Rattle.offer_io.specs.Stores.{StoreView, Passes}
 use Rattle.offer_model.specs.declared.products.Limit.{Limit}
 use Rattle.assort_core.specs.declared.stops.Stop.{Stop}
 use Rattle.assort_core.specs.declared.stops.Stop.TheVariants.{Unread, Faulty, UnwrittenProof, NoMemory}
-use Rattle.assort_core.specs.Runs.{CannotRead, CannotReadFile}
+use Rattle.assort_core.specs.Runs.{CannotRead, CannotReadFile, FilesStand}
 use Rattle.assort_core.specs.Stops.{WhyStopped}
 use Rattle.std.specs.Prelude.{Contains, IsTrue}
 use Rattle.std.proofs.lemmas.Bool.Decides.{nat_tests}
@@ -34,12 +34,12 @@ le_true n m h = grind arith
 
 -- A table file that is there and not too large.
 pub given_table : {A : Type 0} (name : FileName) (outcome : List ℕ → Result A InputFault) (file : Option (List ℕ)) (bytes : List ℕ) (o : Result A InputFault)
-    → file ≡ Some bytes → length bytes ≤ MOST_TABLE → outcome bytes ≡ o → given_by name outcome file ≡ Some o
-given_table name outcome file bytes o there fits is = rw (there, le_true (length bytes) MOST_TABLE fits, is) refl
+    → file ≡ Some bytes → length bytes ≤ most_table → outcome bytes ≡ o → given_by name outcome file ≡ Some o
+given_table name outcome file bytes o there fits is = rw (there, le_true (length bytes) most_table fits, is) refl
 
 -- A products file that is refused.
 pub products_refused : (r : RequestData) (file : List ℕ → Option (List ℕ)) (name bytes slice : List ℕ) (model : ModelName) (e : InputFault) (f : FileName) (row : ℕ) (code : Code)
-    → Some name ≡ r.products → Some model ≡ r.model → file name ≡ Some bytes → length bytes ≤ MOST_TABLE → slice ≡ bytes → e ≡ Fault f row code
+    → Some name ≡ r.products → Some model ≡ r.model → file name ≡ Some bytes → length bytes ≤ most_table → slice ≡ bytes → e ≡ Fault f row code
     → OnFault e (products_outcome model slice ≡ Err e) → IsAnswerTo r file (refusal 3 (fault_line f row code))
 products_refused r file name bytes slice model e f row code named under there fits same fault is =
     let known : OnFault (Fault f row code) (products_outcome model slice ≡ Err (Fault f row code)) = subst (λ z. OnFault z (products_outcome model slice ≡ Err z)) fault is in
@@ -49,7 +49,7 @@ products_refused r file name bytes slice model e f row code named under there fi
 
 -- A limits file that is refused.
 pub limits_refused : (r : RequestData) (file : List ℕ → Option (List ℕ)) (rows : List RowData) (name bytes slice : List ℕ) (e : InputFault) (f : FileName) (row : ℕ) (code : Code)
-    → given_products r file ≡ Some (Ok rows) → Some name ≡ r.limits → file name ≡ Some bytes → length bytes ≤ MOST_TABLE → slice ≡ bytes → e ≡ Fault f row code
+    → given_products r file ≡ Some (Ok rows) → Some name ≡ r.limits → file name ≡ Some bytes → length bytes ≤ most_table → slice ≡ bytes → e ≡ Fault f row code
     → OnFault e (limits_outcome rows slice ≡ Err e) → IsAnswerTo r file (refusal 3 (fault_line f row code))
 limits_refused r file rows name bytes slice e f row code before named there fits same fault is =
     let known : OnFault (Fault f row code) (limits_outcome rows slice ≡ Err (Fault f row code)) = subst (λ z. OnFault z (limits_outcome rows slice ≡ Err z)) fault is in
@@ -59,15 +59,15 @@ limits_refused r file rows name bytes slice e f row code before named there fits
 
 -- A limits file that is too large.
 pub limits_too_large : (r : RequestData) (file : List ℕ → Option (List ℕ)) (rows : List RowData) (name bytes : List ℕ)
-    → given_products r file ≡ Some (Ok rows) → Some name ≡ r.limits → file name ≡ Some bytes → MOST_TABLE < length bytes
+    → given_products r file ≡ Some (Ok rows) → Some name ≡ r.limits → file name ≡ Some bytes → most_table < length bytes
     → IsAnswerTo r file (refusal 3 (fault_line Limits 0 TooLarge))
 limits_too_large r file rows name bytes before named there above =
-    let given : given_limits r file rows ≡ Some (Err (Fault Limits 0 TooLarge)) = rw (sym named, there, le_false (length bytes) MOST_TABLE above) refl in
+    let given : given_limits r file rows ≡ Some (Err (Fault Limits 0 TooLarge)) = rw (sym named, there, le_false (length bytes) most_table above) refl in
     rw (before, given) refl
 
 -- A limits file that is read.
 pub limits_given : (r : RequestData) (file : List ℕ → Option (List ℕ)) (rows : List RowData) (name bytes slice : List ℕ) (limits : List Limit)
-    → Some name ≡ r.limits → file name ≡ Some bytes → length bytes ≤ MOST_TABLE → slice ≡ bytes → limits_outcome rows slice ≡ Ok limits
+    → Some name ≡ r.limits → file name ≡ Some bytes → length bytes ≤ most_table → slice ≡ bytes → limits_outcome rows slice ≡ Ok limits
     → given_limits r file rows ≡ Some (Ok limits)
 limits_given r file rows name bytes slice limits named there fits same is =
     let read : limits_outcome rows bytes ≡ Ok limits = subst (λ b. limits_outcome rows b ≡ Ok limits) same is in
@@ -78,6 +78,10 @@ pub both_given : (r : RequestData) (file : List ℕ → Option (List ℕ)) (rows
     → given_products r file ≡ Some (Ok rows) → given_limits r file rows ≡ Some (Ok limits)
     → judged r file ≡ Some (Ok (record { rows = rows; limits = limits }))
 both_given r file rows limits first second = rw (first, second) refl
+
+-- A call that only opens and reads changes no file.
+pub files_stand : (old new : StoreView) → Passes old new → FilesStand old new
+files_stand old new passes = λ told other. ap (λ (f : List ℕ → _). f other) (passes.files told).file
 
 -- ---- A reason to stop after other files were read is one from the start.
 
@@ -91,6 +95,7 @@ later_read : (name : List ℕ) (old mid new : StoreView) → Passes old mid → 
 later_read name old mid new passes why = record {
   cause = rose_later old.faults mid.faults new.faults passes.later why.cause;
   unheld = λ steady. subst (λ held. Contains held name → ⊥) passes.stays.held (why.unheld (rw passes.stays.steady steady));
+  kept = λ told other. why.kept (rw passes.stays.tells told) other ∙ files_stand old mid passes told other;
 }
 
 later_file : (file : FileName) (r : RequestData) (old mid new : StoreView) → Passes old mid → CannotReadFile r file mid new → CannotReadFile r file old new

@@ -14,12 +14,11 @@ use Rattle.assort_core.specs.declared.stops.Stop.TheVariants.{Unread, Faulty, Un
 use Rattle.assort_words.specs.declared.usage.Command.{Command}
 use Rattle.assort_words.specs.declared.usage.Command.TheVariants.{Solve, Check}
 use Rattle.assort_words.specs.declared.usage.UsageFault.{UsageFault}
-use Rattle.assort_core.specs.declared.check.TheConstants.{MOST_PROOF}
 use Rattle.assort_words.specs.Asked.{RequestData, asked_of}
 use Rattle.assort_core.specs.Lines.{usage_line, unwritten_line}
 use Rattle.assort_core.specs.Judged.{Given, InputsData, judged, asked_problem, proof_name}
-use Rattle.assort_core.specs.Outcomes.{Outcome, IsOutcome, IsAnswerTo, IsAnswerFrom, IsDone, IsVerdictOf, IsVerdict, answer, refusal}
-use Rattle.assort_core.specs.Runs.{Says, Prints, FailsToPrint, Performs, CannotReadFile, StoreFails, OutFails, Gives, IsAnswerable, HoldsInputs, ClaimHolds}
+use Rattle.assort_core.specs.Outcomes.{Outcome, IsOutcome, IsAnswerTo, IsAnswerFrom, IsDone, IsVerdictOf, IsVerdict, answer, refusal, most_proof}
+use Rattle.assort_core.specs.Runs.{Says, Prints, FailsToPrint, Performs, CannotReadFile, StoreFails, OutFails, Gives, IsAnswerable, HoldsInputs, ClaimHolds, ProofStands, ProofIsSealed, ProofMayStand}
 use Rattle.assort_core.specs.Stops.{WhyStopped, status_of, stop_line}
 
 -- a write says a line
@@ -115,11 +114,11 @@ file_held Offer r store store' why steady holds = absurd why
 
 -- why a store's failure ends a run
 pub store_fails : (stop : Stop) (r : RequestData) (store store' : StoreView) (out err err' : SinkView) → status_of stop ≡ 4
-    → WhyStopped r store store' stop → Says err (stop_line stop) err' → StoreFails r store store' out out err err'
-store_fails (Unread file) r store store' out err err' four why says = record { why = inl (file, why, says); silent = refl }
-store_fails UnwrittenProof r store store' out err err' four why says = record { why = inr (why, says); silent = refl }
-store_fails (Faulty file row code) r store store' out err err' four why says = absurd (omega arith)
-store_fails NoMemory r store store' out err err' four why says = absurd (omega arith)
+    → WhyStopped r store store' stop → ProofMayStand r store store' → Says err (stop_line stop) err' → StoreFails r store store' out out err err'
+store_fails (Unread file) r store store' out err err' four why may says = record { why = inl (file, why, says); proof = may; silent = refl }
+store_fails UnwrittenProof r store store' out err err' four why may says = record { why = inr (why, says); proof = may; silent = refl }
+store_fails (Faulty file row code) r store store' out err err' four why may says = absurd (omega arith)
+store_fails NoMemory r store store' out err err' four why may says = absurd (omega arith)
 
 -- a steady store that holds the inputs ends none
 pub steady_store : (stop : Stop) (r : RequestData) (store store' : StoreView) → status_of stop ≡ 4 → WhyStopped r store store' stop
@@ -145,7 +144,7 @@ done_below_two Check r store i o is can done =
     let proof = can.proof is in
     judged_text proof.0 proof.2 (rw proof.1 at done)
   where
-    judged_text : (text : List ℕ) → length text ≤ MOST_PROOF → IsVerdict (asked_problem r i) text o → o.status < 2
+    judged_text : (text : List ℕ) → length text ≤ most_proof → IsVerdict (asked_problem r i) text o → o.status < 2
     judged_text text fits (inl h) = absurd (omega (arith, fits, h.0))
     judged_text text fits (inr (inl h)) = rw h.2 (omega arith)
     judged_text text fits (inr (inr h)) = rw h.2 (omega arith)
@@ -185,13 +184,15 @@ claim_holds r store report check answers = by_given (judged r store.file) refl a
     by_given (Some (Ok i)) e answers = done_claims r.command r store i report check e answers
 
 -- a report that can't be printed
-pub out_fails : (words : List (List ℕ)) (store : StoreView) (r : RequestData) (status : ℕ) (report : List ℕ) (out out' err err' : SinkView) → asked_of words ≡ Ok r
+pub out_fails : (words : List (List ℕ)) (store store' : StoreView) (r : RequestData) (status : ℕ) (report : List ℕ) (out out' err err' : SinkView) → asked_of words ≡ Ok r
     → (IsTrue store.tells → IsAnswerTo r store.file (answer status report)) → FailsToPrint out report out' → Says err unwritten_line err'
-    → OutFails words store out out' err err'
-out_fails words store r status report out out' err err' asked answers fails says = record {
+    → ProofStands r store store' → ProofIsSealed r store' → OutFails words r store store' out out' err err'
+out_fails words store store' r status report out out' err err' asked answers fails says proof sealed = record {
   status = status;
   report = report;
   fails = fails;
   is_outcome = λ told. asked_outcome words store.file r (answer status report) asked (answers told);
   says = says;
+  proof = proof;
+  sealed = sealed;
 }

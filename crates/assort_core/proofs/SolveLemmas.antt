@@ -13,7 +13,7 @@ use Rattle.assort_words.specs.Asked.{RequestData}
 use Rattle.assort_core.specs.Judged.{InputsData, asked_problem}
 use Rattle.assort_core.specs.Outcomes.{IsAnswerTo, IsDone, IsBestReport, answer}
 use Rattle.assort_reports.specs.Reports.{problem_report}
-use Rattle.assort_core.specs.Runs.{Gives, AsksForProof, IsProofPart, ProofStands, ProofMayStand}
+use Rattle.assort_core.specs.Runs.{Gives, AsksForProof, IsProofPart, ProofStands, ProofIsSealed, ProofMayStand}
 use Rattle.assort_core.specs.ProofFiles.{HoldsProof, HoldsPart}
 use Rattle.assort_core.specs.Stops.{WhyStopped}
 use Rattle.assort_core.proofs.InputLemmas.{rose_later}
@@ -50,6 +50,9 @@ why_unwritten r old mid new name report stop solve proof passes reports (inr e) 
 pub proof_unasked : (r : RequestData) (old new : StoreView) → r.proof ≡ None → ProofStands r old new
 proof_unasked r old new none = λ told other asks. let e : Some other ≡ None = sym asks.name_is ∙ none in cc
 
+pub unasked_sealed : (r : RequestData) (new : StoreView) → r.proof ≡ None → ProofIsSealed r new
+unasked_sealed r new none = λ other asks. let e : Some other ≡ None = sym asks.name_is ∙ none in cc
+
 -- the name that is asked for is the request's
 asked_name : (r : RequestData) (name other : List ℕ) → r.proof ≡ Some name → AsksForProof r other → other ≡ name
 asked_name r name other is asks = let e : Some other ≡ Some name = sym asks.name_is ∙ is in cc
@@ -80,5 +83,5 @@ proof_may_stand r old mid new i p name is e passes there holds = λ told other a
         → ((new.file name ≡ mid.file name) ⊎ (new.file name ≡ Some []) ⊎ ((text : List ℕ) × IsWritten p text × ((n : ℕ) × (new.file name ≡ Some (take n text)))))
         → mid.file ≡ old.file → (new.file name ≡ old.file name) ⊎ IsProofPart r old (new.file name)
     by_case t (inl h) same = inl (rw same at h)
-    by_case t (inr (inl h)) same = inr (inl h)
-    by_case t (inr (inr h)) same = inr (inr (i, t, (h.0, rw e at h.1, h.2)))
+    by_case t (inr (inl h)) same = inr (i, t, inl h)
+    by_case t (inr (inr h)) same = inr (i, t, inr (h.0, rw e at h.1, h.2))

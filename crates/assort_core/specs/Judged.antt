@@ -3,7 +3,7 @@ use Rattle.std.specs.Prelude.{ℕ, List, [], length, Option, Some, None, option_
 use Rattle.offer_model.specs.declared.products.Limit.{Limit}
 use Rattle.offer_model.specs.declared.products.ModelName.TheVariants.{Logit}
 use Rattle.offer_model.specs.Problems.{ProblemData}
-use Rattle.catalogue.specs.declared.products.TheConstants.{MOST_TABLE}
+use Rattle.catalogue.specs.Sizes.{most_table}
 use Rattle.catalogue.specs.declared.faults.Code.TheVariants.{TooLarge}
 use Rattle.catalogue.specs.declared.faults.FileName.{FileName}
 use Rattle.catalogue.specs.declared.faults.FileName.TheVariants.{Products, Limits}
@@ -32,7 +32,7 @@ unless_too_large file most bytes outcome = if nat_le (length bytes) most then ou
 
 -- What comes of a table file.
 abbrev pub given_by : {A : Type 0} → FileName → (List ℕ → Result A InputFault) → Option (List ℕ) → Given A
-given_by file outcome content = option_map (λ bytes. unless_too_large file MOST_TABLE bytes (outcome bytes)) content
+given_by file outcome content = option_map (λ bytes. unless_too_large file most_table bytes (outcome bytes)) content
 
 -- What comes of a first file and then, where it has no fault, of what follows.
 abbrev pub and_given : {A B : Type 0} → Given A → (A → Given B) → Given B

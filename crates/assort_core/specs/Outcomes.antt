@@ -10,7 +10,6 @@ use Rattle.assort_words.specs.declared.usage.Command.{Command}
 use Rattle.assort_words.specs.declared.usage.Command.TheVariants.{Solve, Check}
 use Rattle.assort_words.specs.Asked.{RequestData, asked_of}
 use Rattle.assort_reports.specs.Reports.{problem_report}
-use Rattle.assort_core.specs.declared.check.TheConstants.{MOST_PROOF}
 use Rattle.assort_core.specs.Judged.{Given, InputsData, judged, asked_problem, proof_name}
 use Rattle.assort_core.specs.Lines.{usage_line, fault_line}
 
@@ -40,12 +39,16 @@ accepted_report = codes "accepted\n"
 abbrev pub rejected_report : List ℕ
 rejected_report = codes "rejected\n"
 
+-- The most bytes of a proof that is checked.
+abbrev pub most_proof : ℕ
+most_proof = 268435456
+
 -- What `check` says of a proof's text.
 abbrev pub IsVerdict : ProblemData → List ℕ → Outcome → Type 0
 IsVerdict p text o =
-    ((MOST_PROOF < length text) × (o ≡ refusal 3 (fault_line Proof 0 TooLarge)))
-    ⊎ ((length text ≤ MOST_PROOF) × Accepts p text × (o ≡ answer 0 accepted_report))
-    ⊎ ((length text ≤ MOST_PROOF) × ¬ Accepts p text × (o ≡ answer 1 rejected_report))
+    ((most_proof < length text) × (o ≡ refusal 3 (fault_line Proof 0 TooLarge)))
+    ⊎ ((length text ≤ most_proof) × Accepts p text × (o ≡ answer 0 accepted_report))
+    ⊎ ((length text ≤ most_proof) × ¬ Accepts p text × (o ≡ answer 1 rejected_report))
 
 -- Nothing comes of a proof that isn't there: its read fails.
 abbrev pub IsVerdictOf : ProblemData → Option (List ℕ) → Outcome → Type 0

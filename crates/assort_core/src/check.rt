@@ -1,3 +1,4 @@
+//! The command `check`: whether a certificate is one for the problem of its files.
 ghost use Rattle.std.specs.Prelude.{◌≡◌, ◌<◌, IfOk, IfErr, IsTrue, ◌↔◌, if◌then◌else◌};
 ghost use Rattle.offer_model.specs.Validity.{IsRatioModel};
 ghost use Rattle.offer_io.specs.Stores.{Passes};

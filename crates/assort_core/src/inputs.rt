@@ -1,3 +1,4 @@
+//! The files of a request, loaded and judged one after the other.
 ghost use Rattle.std.specs.Prelude.{◌≡◌, ◌≤◌, ℕ, Some, Ok, IfOk, IfErr, IsTrue, length, unwrap_or};
 ghost use Rattle.offer_model.specs.declared.products.ModelName.{ModelName};
 ghost use Rattle.offer_model.specs.declared.products.ModelName.TheVariants as model;
@@ -27,6 +28,7 @@ pub(crate) struct Inputs {
 }
 
 /// The bytes of a file that isn't above its limit.
+#[tactic(auto, using(crate::proofs::InputLemmas::files_stand))]
 pub(crate) fn load_file<S: Store>(
     alloc: Global,
     store: &mut S,

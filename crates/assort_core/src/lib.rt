@@ -14,10 +14,3 @@ mod usage_line;
 
 pub use check::MOST_PROOF;
 pub use top::run;
-
-#[cfg(test)]
-mod limit_tests;
-#[cfg(test)]
-mod step_count_tests;
-#[cfg(test)]
-mod tests;

@@ -1,3 +1,4 @@
+//! The certificate's file: made, written by the step of the limits' kind, sealed.
 ghost use Rattle.std.specs.Prelude.{◌≡◌, ◌⊎◌, OnOk, OnErr, IfErr, IsErrOf, IsTrue};
 ghost use Rattle.offer_model.specs.Best.{IsBest};
 ghost use Rattle.offer_model.specs.Validity.{IsRatioModel};
@@ -67,6 +68,7 @@ pub(crate) fn write_proof<S: Store>(
     requires model { IsRatioModel p.now.model }
     requires best { IsBest p.now best.now }
     ensures written { OnOk result (HoldsProof p.now name.now (S.view store.new)) }
+    ensures sealed { OnOk result (IsTrue (S.view store.new).sealed) }
     ensures part { OnErr result (HoldsPart p.now name.now (S.view store.old) (S.view store.new)) }
     ensures others { IsTrue (S.view store.old).tells → OthersStay name.now (S.view store.old) (S.view store.new) }
     ensures stops { IfErr result (λ stop. (stop ≡ Stop.UnwrittenProof) ⊎ (stop ≡ Stop.NoMemory)) }

@@ -1,3 +1,4 @@
+//! The command `solve`: the best assortment, its report, and its certificate where one is asked for.
 ghost use Rattle.std.specs.Prelude.{◌≡◌, length, Some, IfOk, IfErr, OnOk, OnErr, IsTrue};
 ghost use Rattle.offer_model.specs.Best.{IsBest};
 ghost use Rattle.offer_model.specs.Problems.{product_count};
@@ -6,7 +7,7 @@ ghost use Rattle.assort_words.specs.declared.usage.Command.TheVariants as comman
 ghost use Rattle.assort_words.specs.Asked.{IsComplete};
 ghost use Rattle.assort_core.specs.Outcomes.{answer, IsAnswerTo};
 ghost use Rattle.assort_reports.specs.Reports.{problem_report};
-ghost use Rattle.assort_core.specs.Runs.{Endures, OthersStand, ProofStands, ProofMayStand, FilesStand};
+ghost use Rattle.assort_core.specs.Runs.{Endures, OthersStand, ProofStands, ProofMayStand, ProofIsSealed, FilesStand};
 ghost use Rattle.assort_core.specs.Stops.{WhyStopped, status_of};
 
 use crate::best::best_assortment;
@@ -65,6 +66,7 @@ pub(crate) fn solve<S: Store>(
     ensures stopped { IfErr result (WhyStopped request.now (S.view store.old) (S.view store.new)) }
     ensures others { OthersStand request.now (S.view store.old) (S.view store.new) }
     ensures proof { OnOk result (ProofStands request.now (S.view store.old) (S.view store.new)) }
+    ensures sealed { OnOk result (ProofIsSealed request.now (S.view store.new)) }
     ensures part { OnErr result (ProofMayStand request.now (S.view store.old) (S.view store.new)) }
     ensures kept { IfErr result (λ stop. status_of stop ≡ 3 → FilesStand (S.view store.old) (S.view store.new)) }
     ensures endures { Endures (S.view store.old) (S.view store.new) }

@@ -1,9 +1,10 @@
+//! One run: words, request, answer, and what is printed.
 ghost use Rattle.std.specs.Prelude.{◌≡◌, ◌≢◌, ◌≤◌, ◌<◌, ◌⊎◌, IsTrue, IfOk, IsOkAnd, MatchResult};
 ghost use Rattle.offer_io.specs.Causes.{Rose};
 ghost use Rattle.assort_words.specs.declared.usage.Command.TheVariants as command;
 ghost use Rattle.assort_words.specs.Asked.{asked_of};
 ghost use Rattle.assort_core.specs.Lines.{usage_line, memory_line, unwritten_line};
-ghost use Rattle.assort_core.specs.Runs.{Performs, Prints, FailsToPrint, Says, StoreFails, OutFails, IsAnswerable, HoldsInputs, ClaimHolds, OthersStand, ProofStands, ProofMayStand, FilesStand, Endures};
+ghost use Rattle.assort_core.specs.Runs.{Performs, Prints, FailsToPrint, Says, StoreFails, OutFails, IsAnswerable, HoldsInputs, ClaimHolds, OthersStand, ProofStands, ProofMayStand, ProofIsSealed, FilesStand, Endures};
 ghost use Rattle.assort_core.specs.Stops.{status_of, stop_line};
 
 use crate::answers::answer_to;
@@ -89,16 +90,18 @@ pub fn run<R: Threads + Sync, S: Store, O: Sink, E: Sink, G: Gate + Sync>(
     ensures usage { MatchResult (asked_of words.now) (λ _. result ≢ 2)
         (λ fault. (result ≡ 2) × Says (E.view err.old) (usage_line fault) (E.view err.new)) }
 
-    // 4 comes only where a call of the store or of standard output failed.
+    // 4 comes only where a call of the store or of standard output failed. A failed read changes no file, and a failed write
+    // of the report leaves the proof whole.
     ensures failed { result ≡ 4 → IfOk (asked_of words.now) (λ r.
         StoreFails r (S.view store.old) (S.view store.new) (O.view out.old) (O.view out.new) (E.view err.old) (E.view err.new)
-        ⊎ OutFails words.now (S.view store.old) (O.view out.old) (O.view out.new) (E.view err.old) (E.view err.new)) }
+        ⊎ OutFails words.now r (S.view store.old) (S.view store.new) (O.view out.old) (O.view out.new) (E.view err.old) (E.view err.new)) }
     ensures steady { result ≡ 4 → IsTrue (S.view store.old).steady
         → IfOk (asked_of words.now) (λ r. HoldsInputs r (S.view store.old))
         → Rose (O.view out.old).faults (O.view out.new).faults }
 
-    // 5 is want of memory.
+    // 5 is want of memory. The proof is as it was, or a part from its front where the files have no fault.
     ensures memory { result ≡ 5 → Says (E.view err.old) memory_line (E.view err.new) }
+    ensures part { result ≡ 5 → IfOk (asked_of words.now) (λ r. ProofMayStand r (S.view store.old) (S.view store.new)) }
 
     // Where the request can be answered and no count of faults rose, its report is printed, or memory ran out.
     ensures complete { IsOkAnd (asked_of words.now) (λ r. IsAnswerable r (S.view store.old))
@@ -114,8 +117,7 @@ pub fn run<R: Threads + Sync, S: Store, O: Sink, E: Sink, G: Gate + Sync>(
     ensures quiet { result < 2 → E.view err.new ≡ E.view err.old }
     ensures others { IfOk (asked_of words.now) (λ r. OthersStand r (S.view store.old) (S.view store.new)) }
     ensures proof { result ≡ 0 → IfOk (asked_of words.now) (λ r. ProofStands r (S.view store.old) (S.view store.new)) }
-    ensures part { 4 ≤ result → IfOk (asked_of words.now) (λ r.
-        ProofStands r (S.view store.old) (S.view store.new) ⊎ ProofMayStand r (S.view store.old) (S.view store.new)) }
+    ensures sealed { result ≡ 0 → IfOk (asked_of words.now) (λ r. ProofIsSealed r (S.view store.new)) }
     ensures kept { 0 < result → result < 4 → FilesStand (S.view store.old) (S.view store.new) }
     ensures endures { Endures (S.view store.old) (S.view store.new) }
 {

@@ -1,3 +1,4 @@
+pub mod ConstantLemmas
 pub mod CatalogueProblemLemmas
 mod PrintedTextLemmas
 mod ReadBackLemmas

@@ -17,7 +17,7 @@ use Rattle.offer_model.specs.Numerals.{number_of}
 use Rattle.offer_model.specs.Problems.{product_at, product_count, no_product}
 use Rattle.offer_model.specs.Validity.{IsInRange, NamesExisting, Repeats, is_requires, HasLimits}
 use Rattle.table_reader.specs.Tables.{TableData}
-use Rattle.catalogue.specs.declared.limit_columns.TheConstants.{FIRST, SECOND, NUMBER}
+use Rattle.catalogue.specs.Columns.{first_column, second_column, number_column}
 use Rattle.catalogue.specs.declared.limit_kinds.LimitKind.{LimitKind}
 use Rattle.catalogue.specs.declared.limit_kinds.LimitKind.TheVariants.{Total, Category, Requires, Shelf, Ladder}
 use Rattle.catalogue.specs.declared.faults.FileName.TheVariants.{Limits}
@@ -56,9 +56,9 @@ pub record CleanLimit (rows : List RowData) (table : TableData) (k : ℕ) (kind 
   pub kind_is : kind_of_row table k ≡ Some kind
   pub line : line_fault k ≡ None
   pub pairs : requires_fault rows table k ≡ None
-  pub first : named_fault (first_named rows kind (text_of table k FIRST)) ≡ None
-  pub second : named_fault (second_named rows kind (text_of table k SECOND)) ≡ None
-  pub number : cap_fault kind (text_of table k NUMBER) ≡ None
+  pub first : named_fault (first_named rows kind (text_of table k first_column)) ≡ None
+  pub second : named_fault (second_named rows kind (text_of table k second_column)) ≡ None
+  pub number : cap_fault kind (text_of table k number_column) ≡ None
   pub once : repeated_fault rows table k ≡ None
 
 pub clean_limit : (rows : List RowData) (table : TableData) (k : ℕ) → limit_fault rows table k ≡ None → (kind : LimitKind) × CleanLimit rows table k kind
@@ -71,8 +71,8 @@ clean_limit rows table k clean =
     by_kind line None is none = cc
     by_kind line (Some kind) is none =
         let each = (all_none (requires_fault rows table k ∷ fields_fault rows table k kind ∷ repeated_fault rows table k ∷ []) none) in
-        let fields = all_none (named_fault (first_named rows kind (text_of table k FIRST))
-        ∷ named_fault (second_named rows kind (text_of table k SECOND)) ∷ cap_fault kind (text_of table k NUMBER) ∷ []) each.1.0 in (
+        let fields = all_none (named_fault (first_named rows kind (text_of table k first_column))
+        ∷ named_fault (second_named rows kind (text_of table k second_column)) ∷ cap_fault kind (text_of table k number_column) ∷ []) each.1.0 in (
           kind,
           record {
             kind_is = is;
@@ -193,11 +193,11 @@ module _ (rows : List RowData) (table : TableData) (n : ℕ) (clean : (k : ℕ) 
         few_requires = few_pairs n (omega arith);
         in_range = each_limit IsInRange (λ k inside.
             let row = clean_limit rows table k (clean k inside) in
-            subst IsInRange (sym (stated k row.0 row.1.kind_is)) (capped row.0 (text_of table k NUMBER) _ _ row.1.number));
+            subst IsInRange (sym (stated k row.0 row.1.kind_is)) (capped row.0 (text_of table k number_column) _ _ row.1.number));
         named = each_limit (NamesExisting (problem_data_of rows model none unit limits)) (λ k inside.
             let row = clean_limit rows table k (clean k inside) in
             subst (NamesExisting (problem_data_of rows model none unit limits)) (sym (stated k row.0 row.1.kind_is))
-            (names_there rows numbered model none unit limits row.0 (text_of table k FIRST) (text_of table k SECOND) _ row.1.first row.1.second));
+            (names_there rows numbered model none unit limits row.0 (text_of table k first_column) (text_of table k second_column) _ row.1.first row.1.second));
         once = λ i j d before inside.
             let last : j < n = omega (arith, inside, length-map-range_with_len (stated_limit rows table) 0 n) in
             let at : (k : ℕ) → k < n → get_or limits k d ≡ stated_limit rows table k

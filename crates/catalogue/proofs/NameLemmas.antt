@@ -14,15 +14,15 @@ use Rattle.std.proofs.lemmas.Slice.Eq.{bytes_eq-Decides}
 use Rattle.std.proofs.lemmas.Bool.Decides.{nat_tests}
 use Rattle.table_reader.specs.Tables.{is_among}
 use Rattle.table_reader.proofs.PositionLemmas.{position_cons, position_there}
-use Rattle.catalogue.specs.declared.names.TheConstants.{MOST_NAME}
+use Rattle.catalogue.specs.Sizes.{most_name}
 use Rattle.catalogue.specs.Names.{is_name_byte, is_name, distinct_names, number_in}
 
 -- What a field is that passed all tests but the last.
-module _ (field : List ℕ) (some : 1 ≤ length field) (few : length field ≤ MOST_NAME) (bytes : list_all is_name_byte field ≡ true) where
+module _ (field : List ℕ) (some : 1 ≤ length field) (few : length field ≤ most_name) (bytes : list_all is_name_byte field ≡ true) where
   name_if_utf8 : is_name field ≡ is_utf8 field
   name_if_utf8 = rw bytes (by_tests (is_utf8 field))
     where
-      by_tests : (b : Bool) → (nat_le 1 (length field) && nat_le (length field) MOST_NAME && b && true) ≡ b
+      by_tests : (b : Bool) → (nat_le 1 (length field) && nat_le (length field) most_name && b && true) ≡ b
       by_tests true = grind (arith, nat_tests)
       by_tests false = grind (arith, nat_tests)
 

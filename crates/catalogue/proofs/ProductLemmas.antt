@@ -13,7 +13,7 @@ use Rattle.offer_model.specs.declared.products.ModelName.TheVariants.{Attract}
 use Rattle.offer_model.specs.declared.ranges.TheConstants.{MOST_PRODUCTS, MOST_AMOUNT, MOST_COUNT}
 use Rattle.offer_model.specs.Numerals.{number_of}
 use Rattle.table_reader.specs.Tables.{TableData, place_of, is_among}
-use Rattle.catalogue.specs.declared.product_columns.TheConstants.{NAME, MARGIN, ATTRACTION, SHADOW, CATEGORY, SPACE, PRICE, LADDER, GRADE, ARRIVAL}
+use Rattle.catalogue.specs.Columns.{name_column, margin_column, attraction_column, shadow_column, category_column, space_column, price_column, ladder_column, grade_column, arrival_column}
 use Rattle.catalogue.specs.Names.{is_name, distinct_names, number_in}
 use Rattle.catalogue.specs.Rows.{RowData, IsGroup, IsRow, NamesDiffer, IsCatalogue}
 use Rattle.catalogue.specs.Cells.{text_at, texts_of, text_of, written_number, range_fault, number_fault, name_fault, fault_unless_empty}
@@ -48,27 +48,27 @@ group_is_good (b ∷ text) clean = inr (name_is_good (b ∷ text) (rw (full b te
 -- A row without a fault has none in any of its cells.
 pub record CleanRow (model : ModelName) (table : TableData) (k : ℕ) : Type 0 where
   pub count : count_fault k ≡ None
-  pub name : name_fault (text_of table k NAME) ≡ None
+  pub name : name_fault (text_of table k name_column) ≡ None
   pub once : repeat_fault table k ≡ None
-  pub margin : amount_fault model table k MARGIN MOST_AMOUNT ≡ None
-  pub attraction : amount_fault model table k ATTRACTION MOST_AMOUNT ≡ None
-  pub shadow : amount_fault model table k SHADOW MOST_AMOUNT ≡ None
-  pub category : group_fault table k CATEGORY ≡ None
-  pub space : amount_fault model table k SPACE MOST_COUNT ≡ None
-  pub price : amount_fault model table k PRICE MOST_AMOUNT ≡ None
-  pub ladder : group_fault table k LADDER ≡ None
-  pub grade : amount_fault model table k GRADE MOST_COUNT ≡ None
-  pub arrival : amount_fault model table k ARRIVAL MOST_AMOUNT ≡ None
+  pub margin : amount_fault model table k margin_column MOST_AMOUNT ≡ None
+  pub attraction : amount_fault model table k attraction_column MOST_AMOUNT ≡ None
+  pub shadow : amount_fault model table k shadow_column MOST_AMOUNT ≡ None
+  pub category : group_fault table k category_column ≡ None
+  pub space : amount_fault model table k space_column MOST_COUNT ≡ None
+  pub price : amount_fault model table k price_column MOST_AMOUNT ≡ None
+  pub ladder : group_fault table k ladder_column ≡ None
+  pub grade : amount_fault model table k grade_column MOST_COUNT ≡ None
+  pub arrival : amount_fault model table k arrival_column MOST_AMOUNT ≡ None
   pub below : shadow_fault model table k ≡ None
 
 pub clean_row : (model : ModelName) (table : TableData) (k : ℕ) → product_fault model table k ≡ None → CleanRow model table k
 clean_row model table k clean =
-    let each = all_none (count_fault k ∷ name_fault (text_of table k NAME) ∷ repeat_fault table k
-    ∷ amount_fault model table k MARGIN MOST_AMOUNT ∷ amount_fault model table k ATTRACTION MOST_AMOUNT
-    ∷ amount_fault model table k SHADOW MOST_AMOUNT ∷ group_fault table k CATEGORY
-    ∷ amount_fault model table k SPACE MOST_COUNT ∷ amount_fault model table k PRICE MOST_AMOUNT
-    ∷ group_fault table k LADDER ∷ amount_fault model table k GRADE MOST_COUNT
-    ∷ amount_fault model table k ARRIVAL MOST_AMOUNT ∷ shadow_fault model table k ∷ []) clean in
+    let each = all_none (count_fault k ∷ name_fault (text_of table k name_column) ∷ repeat_fault table k
+    ∷ amount_fault model table k margin_column MOST_AMOUNT ∷ amount_fault model table k attraction_column MOST_AMOUNT
+    ∷ amount_fault model table k shadow_column MOST_AMOUNT ∷ group_fault table k category_column
+    ∷ amount_fault model table k space_column MOST_COUNT ∷ amount_fault model table k price_column MOST_AMOUNT
+    ∷ group_fault table k ladder_column ∷ amount_fault model table k grade_column MOST_COUNT
+    ∷ amount_fault model table k arrival_column MOST_AMOUNT ∷ shadow_fault model table k ∷ []) clean in
     record {
       count = each.0;
       name = each.1.0;
@@ -93,7 +93,7 @@ module _ (model : ModelName) (table : TableData) (k : ℕ) (clean : product_faul
       grind (arith, nat_tests)
 
   -- No earlier row has its name.
-  pub is_new_name : is_among (text_of table k NAME) (take k (texts_of table NAME)) ≡ false
+  pub is_new_name : is_among (text_of table k name_column) (take k (texts_of table name_column)) ≡ false
   is_new_name = no_fault_if _ _ (clean_row model table k clean).once
 
   -- Its names are names, and its numbers in their ranges.
@@ -103,24 +103,24 @@ module _ (model : ModelName) (table : TableData) (k : ℕ) (clean : product_faul
       let amount : (c most : ℕ) → amount_fault model table k c most ≡ None → written_number (text_of table k c) ≤ most
       = λ c most none. amount_in_range (is_needed model c) most (text_of table k c) none in
       record {
-        name = name_is_good (text_of table k NAME) row.name;
+        name = name_is_good (text_of table k name_column) row.name;
         product = record {
-          margin = amount MARGIN MOST_AMOUNT row.margin;
-          space = amount SPACE MOST_COUNT row.space;
-          price = amount PRICE MOST_AMOUNT row.price;
-          grade = amount GRADE MOST_COUNT row.grade;
+          margin = amount margin_column MOST_AMOUNT row.margin;
+          space = amount space_column MOST_COUNT row.space;
+          price = amount price_column MOST_AMOUNT row.price;
+          grade = amount grade_column MOST_COUNT row.grade;
         };
-        attraction = amount ATTRACTION MOST_AMOUNT row.attraction;
-        shadow = amount SHADOW MOST_AMOUNT row.shadow;
-        arrival = amount ARRIVAL MOST_AMOUNT row.arrival;
-        category = group_is_good (text_of table k CATEGORY) row.category;
-        ladder = group_is_good (text_of table k LADDER) row.ladder;
+        attraction = amount attraction_column MOST_AMOUNT row.attraction;
+        shadow = amount shadow_column MOST_AMOUNT row.shadow;
+        arrival = amount arrival_column MOST_AMOUNT row.arrival;
+        category = group_is_good (text_of table k category_column) row.category;
+        ladder = group_is_good (text_of table k ladder_column) row.ladder;
       }
 
 -- Under generalised attraction its shadow isn't above its attraction.
 shadow_below : (table : TableData) (k : ℕ) → product_fault Attract table k ≡ None → (product_row table k).shadow ≤ (product_row table k).attraction
 shadow_below table k clean =
-    let below : nat_lt (written_number (text_of table k ATTRACTION)) (written_number (text_of table k SHADOW)) ≡ false
+    let below : nat_lt (written_number (text_of table k attraction_column)) (written_number (text_of table k shadow_column)) ≡ false
     = no_fault_if _ _ (clean_row Attract table k clean).below in
     grind (arith, nat_tests)
 
@@ -144,15 +144,15 @@ module _ (table : TableData) where
   few (suc n) below = let last = below n (omega arith) in omega arith
 
   -- Names of which the second isn't among those before it differ.
-  names_differ : (i j : ℕ) → i < j → is_among (text_of table j NAME) (take j (texts_of table NAME)) ≡ false → j < length table.records
-      → text_of table i NAME ≢ text_of table j NAME
+  names_differ : (i j : ℕ) → i < j → is_among (text_of table j name_column) (take j (texts_of table name_column)) ≡ false → j < length table.records
+      → text_of table i name_column ≢ text_of table j name_column
   names_differ i j before fresh inside same =
-      let texts = texts_of table NAME in
-      let long : length texts ≡ length table.records = length-map table.records (text_at (place_of table NAME)) in
+      let texts = texts_of table name_column in
+      let long : length texts ≡ length table.records = length-map table.records (text_at (place_of table name_column)) in
       let there : i < length (take j texts) = omega (arith, length-take j texts, long) in
-      let here : bytes_eq (text_of table j NAME) (get_or (take j texts) i []) ≡ true
-      = ap (bytes_eq (text_of table j NAME)) (get_or-take j texts i [] before) ∙ (bytes_eq-Decides (text_of table j NAME) (text_of table i NAME)).1 (sym same) in
-      true≢false (sym (list_any_at (bytes_eq (text_of table j NAME)) (take j texts) i [] there here) ∙ fresh)
+      let here : bytes_eq (text_of table j name_column) (get_or (take j texts) i []) ≡ true
+      = ap (bytes_eq (text_of table j name_column)) (get_or-take j texts i [] before) ∙ (bytes_eq-Decides (text_of table j name_column) (text_of table i name_column)).1 (sym same) in
+      true≢false (sym (list_any_at (bytes_eq (text_of table j name_column)) (take j texts) i [] there here) ∙ fresh)
 
   -- No fault in a row, so the rows are a catalogue.
   pub is_catalogue : (model : ModelName) → ((k : ℕ) → k < length table.records → product_fault model table k ≡ None) → IsCatalogue (product_rows table)
@@ -170,8 +170,8 @@ module _ (table : TableData) where
         (λ row. (row.product.category ≡ number_in (map (λ (other : RowData). other.category) (product_rows table)) row.category)
         × (row.product.ladder ≡ number_in (map (λ (other : RowData). other.ladder) (product_rows table)) row.ladder))
         (λ k inside. (
-          ap (λ texts. number_in texts (text_of table k CATEGORY)) (sym (column_of_rows (λ row. row.category) CATEGORY (λ k. refl))),
-          ap (λ texts. number_in texts (text_of table k LADDER)) (sym (column_of_rows (λ row. row.ladder) LADDER (λ k. refl))),
+          ap (λ texts. number_in texts (text_of table k category_column)) (sym (column_of_rows (λ row. row.category) category_column (λ k. refl))),
+          ap (λ texts. number_in texts (text_of table k ladder_column)) (sym (column_of_rows (λ row. row.ladder) ladder_column (λ k. refl))),
         ));
   }
 
@@ -187,12 +187,12 @@ module _ (model : ModelName) (table : TableData) (k : ℕ) (inside : k < length 
       let here : k < length (texts_of table c) = omega (arith, inside, length-map table.records (text_at (place_of table c))) in
       take_more (texts_of table c) k [] here ∙ ap (λ t. take k (texts_of table c) ++ t ∷ []) is
 
-  pub names_more : (names after : List (List ℕ)) (name : List ℕ) → product_fault model table k ≡ None → names ≡ take k (texts_of table NAME)
-      → text_of table k NAME ≡ name → after ≡ (if is_among name names then names else names ++ name ∷ []) → after ≡ take (k + 1) (texts_of table NAME)
+  pub names_more : (names after : List (List ℕ)) (name : List ℕ) → product_fault model table k ≡ None → names ≡ take k (texts_of table name_column)
+      → text_of table k name_column ≡ name → after ≡ (if is_among name names then names else names ++ name ∷ []) → after ≡ take (k + 1) (texts_of table name_column)
   names_more names after name clean before is grown =
       let fresh : is_among name names ≡ false
       = (λ i. is_among (sym is i) (before i)) ∙ is_new_name model table k clean in
-      grown ∙ rw fresh (ap (λ known. known ++ name ∷ []) before ∙ sym (column_more NAME name is))
+      grown ∙ rw fresh (ap (λ known. known ++ name ∷ []) before ∙ sym (column_more name_column name is))
 
   pub group_more : (c : ℕ) (before after : List (List ℕ)) (text : List ℕ) → before ≡ distinct_names (take k (texts_of table c)) → text_of table k c ≡ text
       → ((texts : List (List ℕ)) → before ≡ distinct_names texts → after ≡ distinct_names (texts ++ text ∷ []))

@@ -21,7 +21,7 @@ use Rattle.offer_model.specs.Numerals.{number_of}
 use Rattle.table_reader.specs.Tables.{TableData, is_among, place_of}
 use Rattle.table_reader.specs.TableFaults.{answer_to, first_fault, first_other_length, table_outcome}
 use Rattle.table_reader.specs.declared.faults.TableFault.TheVariants.{FieldCount}
-use Rattle.catalogue.specs.declared.product_columns.TheConstants.{NAME, MARGIN, ATTRACTION, SHADOW, CATEGORY, SPACE, PRICE, LADDER, GRADE, ARRIVAL}
+use Rattle.catalogue.specs.Columns.{name_column, margin_column, attraction_column, shadow_column, category_column, space_column, price_column, ladder_column, grade_column, arrival_column}
 use Rattle.catalogue.specs.declared.faults.Code.{Code}
 use Rattle.catalogue.specs.declared.faults.Code.TheVariants.{BadName, OutOfRange, RepeatedName, ShadowAbove, TooManyProducts, NoArrivals}
 use Rattle.catalogue.specs.declared.faults.FileName.{FileName}
@@ -39,7 +39,7 @@ use Rattle.catalogue.proofs.PrintedTextLemmas.{printed_records}
 -- The table of a printed catalogue: each column at its own place, and the rows' fields.
 abbrev printed_table : List RowData → TableData
 printed_table rows = record {
-  places = Some NAME ∷ Some MARGIN ∷ Some ATTRACTION ∷ Some SHADOW ∷ Some CATEGORY ∷ Some SPACE ∷ Some PRICE ∷ Some LADDER ∷ Some GRADE ∷ Some ARRIVAL ∷ [];
+  places = Some name_column ∷ Some margin_column ∷ Some attraction_column ∷ Some shadow_column ∷ Some category_column ∷ Some space_column ∷ Some price_column ∷ Some ladder_column ∷ Some grade_column ∷ Some arrival_column ∷ [];
   records = map product_fields rows;
 }
 
@@ -131,35 +131,35 @@ column_text rows k c f inside same =
 
 -- The texts of a printed row.
 module _ (rows : List RowData) (k : ℕ) (inside : k < length rows) where
-  name_text : text_of (printed_table rows) k NAME ≡ (row_at rows k).name
-  name_text = column_text rows k NAME (λ row. row.name) inside (λ row. refl)
+  name_text : text_of (printed_table rows) k name_column ≡ (row_at rows k).name
+  name_text = column_text rows k name_column (λ row. row.name) inside (λ row. refl)
 
-  margin_text : text_of (printed_table rows) k MARGIN ≡ decimal (row_at rows k).product.margin
-  margin_text = column_text rows k MARGIN (λ row. decimal row.product.margin) inside (λ row. refl)
+  margin_text : text_of (printed_table rows) k margin_column ≡ decimal (row_at rows k).product.margin
+  margin_text = column_text rows k margin_column (λ row. decimal row.product.margin) inside (λ row. refl)
 
-  attraction_text : text_of (printed_table rows) k ATTRACTION ≡ decimal (row_at rows k).attraction
-  attraction_text = column_text rows k ATTRACTION (λ row. decimal row.attraction) inside (λ row. refl)
+  attraction_text : text_of (printed_table rows) k attraction_column ≡ decimal (row_at rows k).attraction
+  attraction_text = column_text rows k attraction_column (λ row. decimal row.attraction) inside (λ row. refl)
 
-  shadow_text : text_of (printed_table rows) k SHADOW ≡ decimal (row_at rows k).shadow
-  shadow_text = column_text rows k SHADOW (λ row. decimal row.shadow) inside (λ row. refl)
+  shadow_text : text_of (printed_table rows) k shadow_column ≡ decimal (row_at rows k).shadow
+  shadow_text = column_text rows k shadow_column (λ row. decimal row.shadow) inside (λ row. refl)
 
-  category_text : text_of (printed_table rows) k CATEGORY ≡ (row_at rows k).category
-  category_text = column_text rows k CATEGORY (λ row. row.category) inside (λ row. refl)
+  category_text : text_of (printed_table rows) k category_column ≡ (row_at rows k).category
+  category_text = column_text rows k category_column (λ row. row.category) inside (λ row. refl)
 
-  space_text : text_of (printed_table rows) k SPACE ≡ decimal (row_at rows k).product.space
-  space_text = column_text rows k SPACE (λ row. decimal row.product.space) inside (λ row. refl)
+  space_text : text_of (printed_table rows) k space_column ≡ decimal (row_at rows k).product.space
+  space_text = column_text rows k space_column (λ row. decimal row.product.space) inside (λ row. refl)
 
-  price_text : text_of (printed_table rows) k PRICE ≡ decimal (row_at rows k).product.price
-  price_text = column_text rows k PRICE (λ row. decimal row.product.price) inside (λ row. refl)
+  price_text : text_of (printed_table rows) k price_column ≡ decimal (row_at rows k).product.price
+  price_text = column_text rows k price_column (λ row. decimal row.product.price) inside (λ row. refl)
 
-  ladder_text : text_of (printed_table rows) k LADDER ≡ (row_at rows k).ladder
-  ladder_text = column_text rows k LADDER (λ row. row.ladder) inside (λ row. refl)
+  ladder_text : text_of (printed_table rows) k ladder_column ≡ (row_at rows k).ladder
+  ladder_text = column_text rows k ladder_column (λ row. row.ladder) inside (λ row. refl)
 
-  grade_text : text_of (printed_table rows) k GRADE ≡ decimal (row_at rows k).product.grade
-  grade_text = column_text rows k GRADE (λ row. decimal row.product.grade) inside (λ row. refl)
+  grade_text : text_of (printed_table rows) k grade_column ≡ decimal (row_at rows k).product.grade
+  grade_text = column_text rows k grade_column (λ row. decimal row.product.grade) inside (λ row. refl)
 
-  arrival_text : text_of (printed_table rows) k ARRIVAL ≡ decimal (row_at rows k).arrival
-  arrival_text = column_text rows k ARRIVAL (λ row. decimal row.arrival) inside (λ row. refl)
+  arrival_text : text_of (printed_table rows) k arrival_column ≡ decimal (row_at rows k).arrival
+  arrival_text = column_text rows k arrival_column (λ row. decimal row.arrival) inside (λ row. refl)
 
 -- What is read of a printed row.
 module _ (rows : List RowData) (valid : IsCatalogue rows) (k : ℕ) (inside : k < length rows) where
@@ -170,8 +170,8 @@ module _ (rows : List RowData) (valid : IsCatalogue rows) (k : ℕ) (inside : k 
   row_again =
       let row = row_at rows k in
       let numbers = valid.numbered k no_row inside in
-      let categories = column (text_at (Some CATEGORY)) (λ other. other.category) (λ other. refl) rows in
-      let ladders = column (text_at (Some LADDER)) (λ other. other.ladder) (λ other. refl) rows in
+      let categories = column (text_at (Some category_column)) (λ other. other.category) (λ other. refl) rows in
+      let ladders = column (text_at (Some ladder_column)) (λ other. other.ladder) (λ other. refl) rows in
       let margin = written_again row.product.margin _ is_row.product.margin (margin_text rows k inside) in
       let category = (λ i. number_in (categories i) (category_text rows k inside i)) ∙ sym numbers.0 in
       let space = written_again row.product.space _ (omega (arith, is_row.product.space)) (space_text rows k inside) in
@@ -193,7 +193,7 @@ module _ (rows : List RowData) (valid : IsCatalogue rows) (k : ℕ) (inside : k 
 
   repeat_right : repeat_fault (printed_table rows) k ≡ None
   repeat_right =
-      let names = column (text_at (Some NAME)) (λ row. row.name) (λ row. refl) rows in
+      let names = column (text_at (Some name_column)) (λ row. row.name) (λ row. refl) rows in
       ap (λ found. if found then Some RepeatedName else None)
       ((λ i. is_among (name_text rows k inside i) (take k (names i))) ∙ name_new rows k valid.once inside)
 

@@ -1,3 +1,5 @@
+pub mod Sizes
+pub mod Columns
 pub mod Names
 pub mod Rows
 pub mod Cells

@@ -10,7 +10,7 @@ use Rattle.table_reader.specs.declared.faults.TableFault.{TableFault}
 use Rattle.table_reader.specs.Records.{records_of}
 use Rattle.table_reader.specs.Tables.{TableData}
 use Rattle.table_reader.specs.TableFaults.{table_outcome}
-use Rattle.catalogue.specs.declared.limit_columns.TheConstants.{KIND, FIRST, SECOND, NUMBER}
+use Rattle.catalogue.specs.Columns.{kind_column, first_column, second_column, number_column}
 use Rattle.catalogue.specs.declared.limit_kinds.LimitKind.{LimitKind}
 use Rattle.catalogue.specs.declared.limit_kinds.LimitKind.TheVariants.{Total, Category, Requires, Shelf, Ladder}
 use Rattle.catalogue.specs.declared.faults.Code.{Code}
@@ -37,7 +37,7 @@ kind_named text =
 
 -- The kind of data row k, if it has one.
 abbrev pub kind_of_row : TableData → ℕ → Option LimitKind
-kind_of_row table k = kind_named (text_of table k KIND)
+kind_of_row table k = kind_named (text_of table k kind_column)
 
 -- The number of a category, of a ladder, and of a product in catalogue order from 0, by its name.
 abbrev pub category_named : List RowData → List ℕ → Option ℕ
@@ -82,9 +82,9 @@ limit_by Ladder first second number = limit.Ladder first
 -- The limit that data row k states. A row without a fault has each part.
 abbrev pub limit_under : List RowData → TableData → ℕ → LimitKind → Limit
 limit_under rows table k kind = limit_by kind
-    (unwrap_or (first_named rows kind (text_of table k FIRST)) 0)
-    (unwrap_or (second_named rows kind (text_of table k SECOND)) 0)
-    (written_number (text_of table k NUMBER))
+    (unwrap_or (first_named rows kind (text_of table k first_column)) 0)
+    (unwrap_or (second_named rows kind (text_of table k second_column)) 0)
+    (written_number (text_of table k number_column))
 
 abbrev pub stated_limit : List RowData → TableData → ℕ → Limit
 stated_limit rows table k = limit_under rows table k (unwrap_or (kind_of_row table k) Total)
@@ -126,9 +126,9 @@ repeated_fault rows table k =
 -- What is wrong with the fields of data row k that a kind uses.
 abbrev pub fields_fault : List RowData → TableData → ℕ → LimitKind → Option Code
 fields_fault rows table k kind = first_of (
-    named_fault (first_named rows kind (text_of table k FIRST))
-    ∷ named_fault (second_named rows kind (text_of table k SECOND))
-    ∷ cap_fault kind (text_of table k NUMBER)
+    named_fault (first_named rows kind (text_of table k first_column))
+    ∷ named_fault (second_named rows kind (text_of table k second_column))
+    ∷ cap_fault kind (text_of table k number_column)
     ∷ [])
 
 -- What is wrong with data row k of a kind.

@@ -3,7 +3,7 @@ use Rattle.std.specs.Prelude.{ℕ, ◌+◌, ◌&&◌, ◌==◌, not, Bool, List,
 use Rattle.std.specs.List.{filter, list_all}
 use Rattle.std.specs.Option.{option_map_or}
 use Rattle.std.specs.Str.{bytes_eq, is_utf8}
-use Rattle.catalogue.specs.declared.names.TheConstants.{MOST_NAME}
+use Rattle.catalogue.specs.Sizes.{most_name}
 
 -- A byte that a name may have: no ASCII control character.
 abbrev pub is_name_byte : ℕ → Bool
@@ -12,7 +12,7 @@ is_name_byte byte = nat_le 32 byte && not (byte == 127)
 -- A name: 1 to 64 bytes of UTF-8, none of them an ASCII control character.
 abbrev pub is_name : List ℕ → Bool
 is_name text =
-    nat_le 1 (length text) && nat_le (length text) MOST_NAME && is_utf8 text && list_all is_name_byte text
+    nat_le 1 (length text) && nat_le (length text) most_name && is_utf8 text && list_all is_name_byte text
 
 -- The texts that aren't empty, each at its first appearance.
 abbrev pub distinct_names : List (List ℕ) → List (List ℕ)

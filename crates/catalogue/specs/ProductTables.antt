@@ -9,7 +9,7 @@ use Rattle.table_reader.specs.declared.faults.TableFault.{TableFault}
 use Rattle.table_reader.specs.Records.{records_of}
 use Rattle.table_reader.specs.Tables.{TableData, is_among}
 use Rattle.table_reader.specs.TableFaults.{table_outcome}
-use Rattle.catalogue.specs.declared.product_columns.TheConstants.{NAME, MARGIN, ATTRACTION, SHADOW, CATEGORY, SPACE, PRICE, LADDER, GRADE, ARRIVAL}
+use Rattle.catalogue.specs.Columns.{name_column, margin_column, attraction_column, shadow_column, category_column, space_column, price_column, ladder_column, grade_column, arrival_column}
 use Rattle.catalogue.specs.declared.faults.Code.{Code}
 use Rattle.catalogue.specs.declared.faults.Code.TheVariants.{RepeatedName, ShadowAbove, TooManyProducts, NoArrivals}
 use Rattle.catalogue.specs.declared.faults.FileName.TheVariants.{Products}
@@ -43,7 +43,7 @@ count_fault k = if nat_lt k MOST_PRODUCTS then None else Some TooManyProducts
 -- An earlier row has the name of data row k.
 abbrev pub repeat_fault : TableData → ℕ → Option Code
 repeat_fault table k =
-    if is_among (text_of table k NAME) (take k (texts_of table NAME)) then Some RepeatedName else None
+    if is_among (text_of table k name_column) (take k (texts_of table name_column)) then Some RepeatedName else None
 
 -- What is wrong with a number of data row k, from 0 to `most`.
 abbrev pub amount_fault : ModelName → TableData → ℕ → ℕ → ℕ → Option Code
@@ -57,7 +57,7 @@ group_fault table k c = fault_unless_empty false name_fault (text_of table k c)
 -- Under generalised attraction the shadow of data row k is above its attraction.
 abbrev pub shadow_fault : ModelName → TableData → ℕ → Option Code
 shadow_fault Attract table k =
-    if nat_lt (written_number (text_of table k ATTRACTION)) (written_number (text_of table k SHADOW)) then Some ShadowAbove
+    if nat_lt (written_number (text_of table k attraction_column)) (written_number (text_of table k shadow_column)) then Some ShadowAbove
     else None
 shadow_fault Logit table k = None
 shadow_fault Mixed table k = None
@@ -67,37 +67,37 @@ shadow_fault Chain table k = None
 abbrev pub product_fault : ModelName → TableData → ℕ → Option Code
 product_fault model table k = first_of (
     count_fault k
-    ∷ name_fault (text_of table k NAME)
+    ∷ name_fault (text_of table k name_column)
     ∷ repeat_fault table k
-    ∷ amount_fault model table k MARGIN MOST_AMOUNT
-    ∷ amount_fault model table k ATTRACTION MOST_AMOUNT
-    ∷ amount_fault model table k SHADOW MOST_AMOUNT
-    ∷ group_fault table k CATEGORY
-    ∷ amount_fault model table k SPACE MOST_COUNT
-    ∷ amount_fault model table k PRICE MOST_AMOUNT
-    ∷ group_fault table k LADDER
-    ∷ amount_fault model table k GRADE MOST_COUNT
-    ∷ amount_fault model table k ARRIVAL MOST_AMOUNT
+    ∷ amount_fault model table k margin_column MOST_AMOUNT
+    ∷ amount_fault model table k attraction_column MOST_AMOUNT
+    ∷ amount_fault model table k shadow_column MOST_AMOUNT
+    ∷ group_fault table k category_column
+    ∷ amount_fault model table k space_column MOST_COUNT
+    ∷ amount_fault model table k price_column MOST_AMOUNT
+    ∷ group_fault table k ladder_column
+    ∷ amount_fault model table k grade_column MOST_COUNT
+    ∷ amount_fault model table k arrival_column MOST_AMOUNT
     ∷ shadow_fault model table k
     ∷ [])
 
 -- The row of data row k. An empty text of a number is 0. Categories and ladders are numbered in order of first appearance.
 abbrev pub product_row : TableData → ℕ → RowData
 product_row table k = record {
-  name = text_of table k NAME;
+  name = text_of table k name_column;
   product = record {
-    margin = written_number (text_of table k MARGIN);
-    category = number_in (texts_of table CATEGORY) (text_of table k CATEGORY);
-    space = written_number (text_of table k SPACE);
-    price = written_number (text_of table k PRICE);
-    ladder = number_in (texts_of table LADDER) (text_of table k LADDER);
-    grade = written_number (text_of table k GRADE);
+    margin = written_number (text_of table k margin_column);
+    category = number_in (texts_of table category_column) (text_of table k category_column);
+    space = written_number (text_of table k space_column);
+    price = written_number (text_of table k price_column);
+    ladder = number_in (texts_of table ladder_column) (text_of table k ladder_column);
+    grade = written_number (text_of table k grade_column);
   };
-  attraction = written_number (text_of table k ATTRACTION);
-  shadow = written_number (text_of table k SHADOW);
-  arrival = written_number (text_of table k ARRIVAL);
-  category = text_of table k CATEGORY;
-  ladder = text_of table k LADDER;
+  attraction = written_number (text_of table k attraction_column);
+  shadow = written_number (text_of table k shadow_column);
+  arrival = written_number (text_of table k arrival_column);
+  category = text_of table k category_column;
+  ladder = text_of table k ladder_column;
 }
 
 abbrev pub product_rows : TableData → List RowData

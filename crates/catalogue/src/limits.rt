@@ -1,7 +1,9 @@
+//! Limits files: from bytes to limits over a catalogue, or to the first fault.
 ghost use Rattle.std.specs.Prelude.{◌≡◌, ℕ, ◌≤◌, length, Ok, Err, Some, None, IfOk, IfErr, OnOk};
 ghost use Rattle.offer_model.specs.declared.products.ModelName.{ModelName};
 ghost use Rattle.offer_model.specs.Validity.{HasLimits, is_requires};
 ghost use Rattle.catalogue.specs.declared.faults.FileName.TheVariants as file;
+ghost use Rattle.catalogue.specs.Sizes.{most_table};
 ghost use Rattle.catalogue.specs.CatalogueProblems.{problem_data_of};
 ghost use Rattle.catalogue.specs.Faults.{OnFault, first_row_fault};
 ghost use Rattle.catalogue.specs.Rows.{HasNumbers};
@@ -11,7 +13,6 @@ use crate::catalogue::{Catalogue, Row};
 use crate::faults::{FileName, InputFault};
 use crate::limit_columns::LIMIT_COLUMNS;
 use crate::limit_rows::read_limit;
-use crate::products::MOST_TABLE;
 use crate::table_faults::fault_of_table;
 use offer_model::{Limit, Limits, MOST_LIMITS, NoMemory, Texts};
 use std::alloc::Global;
@@ -72,7 +73,7 @@ fn read_rows(
 
 /// The limits in the bytes of a limits file over a catalogue, in file order, or the first fault.
 pub fn read_limits(alloc: Global, bytes: &[u8], c: &Catalogue) -> Result<Limits, InputFault>
-    requires { length bytes.now ≤ MOST_TABLE }
+    requires { length bytes.now ≤ most_table }
     ensures limits { IfOk result (λ limits. limits_outcome c.now bytes.now ≡ Ok limits.items) }
     ensures fits { IfOk result (λ limits. (model : ModelName) (none unit : ℕ) → HasLimits (problem_data_of c.now model none unit limits.items)) }
     ensures fault { IfErr result (λ e. OnFault e (limits_outcome c.now bytes.now ≡ Err e)) }

@@ -1,5 +1,6 @@
+//! The cells of one row of a products file, each judged in the order of the columns.
 ghost use Rattle.std.specs.Prelude.{◌≡◌, ◌<◌, [], ◌∷◌, length, take, IfOk, IfErr, OnOk, Some, None};
-ghost use Rattle.catalogue.specs.declared.product_columns.TheConstants.{NAME, CATEGORY, LADDER};
+ghost use Rattle.catalogue.specs.Columns.{name_column, category_column, ladder_column};
 ghost use Rattle.catalogue.specs.Names.{number_in};
 ghost use Rattle.catalogue.specs.Cells.{texts_of, text_of, written_number, name_fault};
 ghost use Rattle.catalogue.specs.Faults.{first_of};
@@ -51,12 +52,12 @@ fn new_name<'a>(
     names: &NameSet<'a>,
 ) -> Result<&'a str, Code>
     requires row { k < length table.now.records }
-    requires names { names.now ≡ take k (texts_of table.now NAME) }
-    ensures name { IfOk result (λ name. name.now ≡ text_of table.now k NAME) }
-    ensures bad { OnOk result (name_fault (text_of table.now k NAME) ≡ None) }
+    requires names { names.now ≡ take k (texts_of table.now name_column) }
+    ensures name { IfOk result (λ name. name.now ≡ text_of table.now k name_column) }
+    ensures bad { OnOk result (name_fault (text_of table.now k name_column) ≡ None) }
     ensures repeated { OnOk result (repeat_fault table.now k ≡ None) }
     ensures fault { IfErr result
-        (λ code. first_of (name_fault (text_of table.now k NAME) ∷ repeat_fault table.now k ∷ []) ≡ Some code) }
+        (λ code. first_of (name_fault (text_of table.now k name_column) ∷ repeat_fault table.now k ∷ []) ≡ Some code) }
 {
     let text = cell(table, k, NAME);
     let name = parse_name(text)?;
@@ -102,9 +103,9 @@ pub fn read_cells<'a>(
     names: &NameSet<'a>,
 ) -> Result<Cells<'a>, Code>
     requires row { k < length table.now.records }
-    requires names { names.now ≡ take k (texts_of table.now NAME) }
+    requires names { names.now ≡ take k (texts_of table.now name_column) }
     ensures row { IfOk result (λ cells. product_row table.now k ≡ row_of cells
-        (number_in (texts_of table.now CATEGORY) cells.category.now) (number_in (texts_of table.now LADDER) cells.ladder.now)) }
+        (number_in (texts_of table.now category_column) cells.category.now) (number_in (texts_of table.now ladder_column) cells.ladder.now)) }
     ensures sound { OnOk result (product_fault model table.now k ≡ None) }
     ensures fault { IfErr result (λ code. product_fault model table.now k ≡ Some code) }
 {

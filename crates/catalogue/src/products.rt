@@ -1,5 +1,7 @@
+//! Products files: from bytes to a catalogue, or to the first fault.
 ghost use Rattle.std.specs.Prelude.{◌≡◌, ◌≤◌, ◌==◌, length, sum_by, Ok, Err, IfOk, IfErr, OnOk, Some, None};
 ghost use Rattle.offer_model.specs.declared.ranges.TheConstants.{MOST_PRODUCTS};
+ghost use Rattle.catalogue.specs.Sizes.{most_table};
 ghost use Rattle.catalogue.specs.CatalogueProblems.{KeepsShadows};
 ghost use Rattle.catalogue.specs.declared.faults.FileName.TheVariants as file;
 ghost use Rattle.catalogue.specs.Faults.{OnFault, first_row_fault};
@@ -94,7 +96,7 @@ fn arrival_fault(rows: &[Row], model: ModelName) -> Option<Code>
 
 /// The catalogue in the bytes of a products file, or its first fault. Columns that the model doesn't use are judged too.
 pub fn read_products(alloc: Global, bytes: &[u8], model: ModelName) -> Result<Catalogue, InputFault>
-    requires { length bytes.now ≤ MOST_TABLE }
+    requires { length bytes.now ≤ most_table }
     ensures rows { IfOk result (λ rows. products_outcome model bytes.now ≡ Ok rows) }
     ensures shadows { IfOk result (λ rows. model ≡ ModelName.Attract → KeepsShadows rows) }
     ensures fault { IfErr result (λ e. OnFault e (products_outcome model bytes.now ≡ Err e)) }

@@ -1,4 +1,4 @@
-// The real files and streams, which tell no content.
+//! The real files and streams, which tell no content.
 ghost use Rattle.std.specs.Prelude.{◌≡◌, false, IsTrue};
 ghost use Rattle.offer_io.specs.Causes.{count_after};
 ghost use Rattle.offer_io.specs.Stores.{Opens, Reads, Creates, Appends, Seals};

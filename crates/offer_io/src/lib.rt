@@ -10,8 +10,6 @@ mod memory;
 mod plans;
 mod ready;
 mod sinks;
-#[cfg(test)]
-mod tests;
 
 pub use devices::{Failed, Gate, OpenGate, Sink, Store};
 pub use host::{HostSink, HostStore};

@@ -1,3 +1,4 @@
+//! A store in memory, which tells all that it holds.
 // A struct with ghost fields imports each line here, so what names the struct itself is imported by
 // the blocks below.
 ghost use Rattle.std.specs.Prelude.{◌≡◌, ◌<◌, length, OnOk, OnErr, IsErr, IsTrue, ◌↔◌, option_copied};

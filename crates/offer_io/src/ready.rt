@@ -1,3 +1,4 @@
+//! A store that never fails at the files that it holds, and tells nothing.
 // A struct with ghost fields imports each line here, so what names the struct itself is imported by
 // the blocks below.
 ghost use Rattle.std.specs.Prelude.{◌≡◌, ◌<◌, length, OnOk, OnErr, IsTrue, Contains};

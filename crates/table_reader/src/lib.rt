@@ -8,8 +8,6 @@ mod faults;
 mod header;
 mod records;
 mod table;
-#[cfg(test)]
-mod tests;
 
 pub use columns::Columns;
 pub use faults::TableFault;

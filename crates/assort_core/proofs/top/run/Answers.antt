@@ -1,5 +1,5 @@
 use Rattle.std.proofs.Common.{◌≡◌, ◌≢◌, ◌∙◌, sym, refl, arith, inl, inr, ⊎_elim}
-use Rattle.assort_core.proofs.RunLemmas.{performs_refusal, performs_stop, performs_answer, out_fails, claim_holds}
+use Rattle.assort_core.proofs.RunLemmas.{performs_refusal, performs_stop, performs_answer, store_fails, out_fails, claim_holds}
 use Rattle.assort_core.proofs.top.run.Goals as goal
 
 pub returns-in-Err-clause-outcome : goal.returns-in-Err-clause-outcome
@@ -22,6 +22,14 @@ returns-in-Err-answer_to-clause-outcome g c = λ small told.
     (g.O.Sink.view c.args.out.now) (g.E.Sink.view c.args.err.now) (g.E.Sink.view c.refuse.new.err) (sym c.read_words.ensures.value ∙ c.in-Ok.is)
     (rw c.refuse.ensures.status at small) told why.stopped c.refuse.ensures.line)
 
+pub returns-in-Err-answer_to-clause-failed : goal.returns-in-Err-answer_to-clause-failed
+returns-in-Err-answer_to-clause-failed g c = λ four.
+    let asked = sym c.read_words.ensures.value ∙ c.in-Ok.is in
+    let why = c.in-Err-answer_to.ensures in
+    rw asked (inl (store_fails c.in-Err-answer_to.stop c.in-Ok.request (g.S.Store.view c.args.store.now) (g.S.Store.view c.answer_to.new.store)
+    (g.O.Sink.view c.args.out.now) (g.E.Sink.view c.args.err.now) (g.E.Sink.view c.refuse.new.err) (sym c.refuse.ensures.status ∙ four) why.stopped why.part
+    c.refuse.ensures.line))
+
 pub returns-in-Ok-answer_to-clause-outcome : goal.returns-in-Ok-answer_to-clause-outcome
 returns-in-Ok-answer_to-clause-outcome g c = λ small told.
     let printed : c.print.result ≢ 4 = λ e. absurd (omega (arith, e, small)) in
@@ -33,9 +41,10 @@ returns-in-Ok-answer_to-clause-outcome g c = λ small told.
 pub returns-in-Ok-answer_to-clause-failed : goal.returns-in-Ok-answer_to-clause-failed
 returns-in-Ok-answer_to-clause-failed g c = λ four.
     let asked = sym c.read_words.ensures.value ∙ c.in-Ok.is in
-    rw asked (inr (out_fails c.args.words.now (g.S.Store.view c.args.store.now) c.in-Ok.request c.in-Ok-answer_to.answer.status c.in-Ok-answer_to.answer.report.items
+    rw asked (inr (out_fails c.args.words.now (g.S.Store.view c.args.store.now) (g.S.Store.view c.answer_to.new.store) c.in-Ok.request c.in-Ok-answer_to.answer.status c.in-Ok-answer_to.answer.report.items
     (g.O.Sink.view c.args.out.now) (g.O.Sink.view c.print.new.out) (g.E.Sink.view c.args.err.now) (g.E.Sink.view c.print.new.err) asked
-    c.in-Ok-answer_to.ensures.answer (c.print.ensures.fails four) (c.print.ensures.says four)))
+    c.in-Ok-answer_to.ensures.answer (c.print.ensures.fails four) (c.print.ensures.says four)
+    c.in-Ok-answer_to.ensures.proof c.in-Ok-answer_to.ensures.sealed))
 
 pub returns-in-Ok-answer_to-clause-checked : goal.returns-in-Ok-answer_to-clause-checked
 returns-in-Ok-answer_to-clause-checked g c = λ zero told.
@@ -43,8 +52,3 @@ returns-in-Ok-answer_to-clause-checked g c = λ zero told.
     let status : c.print.result ≡ c.in-Ok-answer_to.answer.status = ⊎_elim (λ e. e) (λ e. absurd (omega (arith, e, zero))) c.print.ensures.status in
     rw asked (λ check. claim_holds c.in-Ok.request (g.S.Store.view c.args.store.now) c.in-Ok-answer_to.answer.report.items check
     (rw (sym status ∙ zero) at (c.in-Ok-answer_to.ensures.answer told)))
-
-pub returns-in-Ok-answer_to-clause-part : goal.returns-in-Ok-answer_to-clause-part
-returns-in-Ok-answer_to-clause-part g c = λ high.
-    let asked = sym c.read_words.ensures.value ∙ c.in-Ok.is in
-    rw asked (inl c.in-Ok-answer_to.ensures.proof)

@@ -3,7 +3,7 @@ use Rattle.std.proofs.lemmas.Bool.Decides.{nat_tests}
 use Rattle.std.proofs.lemmas.Result.{err_from_is_err_and}
 use Rattle.catalogue.specs.ProductTables.{count_fault, repeat_fault}
 use Rattle.catalogue.specs.Cells.{text_of, name_fault}
-use Rattle.catalogue.specs.declared.product_columns.TheConstants.{NAME}
+use Rattle.catalogue.specs.Columns.{name_column}
 use Rattle.catalogue.proofs.FaultLemmas.{first_of_two}
 use Rattle.catalogue.proofs.product_cells.read_cells.Goals as goal
 
@@ -12,7 +12,7 @@ returns-in_err-new_name-clause-fault c =
     let p = err_from_is_err_and c.from_residual.result c.from_residual.ensures.1 in
     let count : count_fault c.args.k ≡ None = grind (arith, nat_tests) in
     rw (p.1, p.2)
-    (rw count (first_of_two (name_fault (text_of c.args.table.now c.args.k NAME)) (repeat_fault c.args.table.now c.args.k) _ _ c.in_err-new_name.ensures.fault))
+    (rw count (first_of_two (name_fault (text_of c.args.table.now c.args.k name_column)) (repeat_fault c.args.table.now c.args.k) _ _ c.in_err-new_name.ensures.fault))
 
 pub returns-in_err-amount_at-5-clause-fault : goal.returns-in_err-amount_at-5-clause-fault
 returns-in_err-amount_at-5-clause-fault c =

@@ -1,6 +1,6 @@
 use Rattle.std.proofs.Common.{◌≡◌, ◌∙◌, sym, ap, ◌<◌, ◌++◌, ◌∷◌, [], length, None, Some, rules, below_more, arith}
 use Rattle.std.proofs.lemmas.List.FromFn.{map-range_with_len_more}
-use Rattle.catalogue.specs.declared.product_columns.TheConstants.{NAME, CATEGORY, LADDER}
+use Rattle.catalogue.specs.Columns.{name_column, category_column, ladder_column}
 use Rattle.catalogue.specs.Names.{number_in}
 use Rattle.catalogue.specs.Rows.{RowData}
 use Rattle.catalogue.specs.Cells.{texts_of, text_of}
@@ -21,21 +21,21 @@ rows-preserved c =
     let clean : product_fault c.args.model table k ≡ None = c.in-Ok.ensures.sound in
     let inside : k < length table.records = omega arith in
     let below = below_most c.args.model table k clean in
-    let name : text_of table k NAME ≡ c.as_bytes.result.now
+    let name : text_of table k name_column ≡ c.as_bytes.result.now
     = ap (λ (row : RowData). row.name) c.in-Ok.ensures.row ∙ sym c.as_bytes.ensures.value in
-    let category : text_of table k CATEGORY ≡ c.as_bytes-in-rows.result.now
+    let category : text_of table k category_column ≡ c.as_bytes-in-rows.result.now
     = ap (λ (row : RowData). row.category) c.in-Ok.ensures.row ∙ sym c.as_bytes-in-rows.ensures.value in
-    let ladder : text_of table k LADDER ≡ c.as_bytes-in-rows-2.result.now
+    let ladder : text_of table k ladder_column ≡ c.as_bytes-in-rows-2.result.now
     = ap (λ (row : RowData). row.ladder) c.in-Ok.ensures.row ∙ sym c.as_bytes-in-rows-2.ensures.value in
     let pushed : c.push.new.self.items ≡ c.rows.rows.items ++ c.in_ok-to_row.field-0 ∷ [] = search rules in
-    let category_number : c.in_ok-category.category ≡ number_in (texts_of table CATEGORY) cells.category.now
-    = group_number c.args.model table k inside CATEGORY c.rows.categories c.as_bytes-in-rows.result.now c.in_ok-category.category was.categories category
+    let category_number : c.in_ok-category.category ≡ number_in (texts_of table category_column) cells.category.now
+    = group_number c.args.model table k inside category_column c.rows.categories c.as_bytes-in-rows.result.now c.in_ok-category.category was.categories category
     c.in_ok-category.ensures.number
-    ∙ ap (number_in (texts_of table CATEGORY)) c.as_bytes-in-rows.ensures.value in
-    let ladder_number : c.in_ok-ladder.ladder ≡ number_in (texts_of table LADDER) cells.ladder.now
-    = group_number c.args.model table k inside LADDER c.rows.ladders c.as_bytes-in-rows-2.result.now c.in_ok-ladder.ladder was.ladders ladder
+    ∙ ap (number_in (texts_of table category_column)) c.as_bytes-in-rows.ensures.value in
+    let ladder_number : c.in_ok-ladder.ladder ≡ number_in (texts_of table ladder_column) cells.ladder.now
+    = group_number c.args.model table k inside ladder_column c.rows.ladders c.as_bytes-in-rows-2.result.now c.in_ok-ladder.ladder was.ladders ladder
     c.in_ok-ladder.ensures.number
-    ∙ ap (number_in (texts_of table LADDER)) c.as_bytes-in-rows-2.ensures.value in
+    ∙ ap (number_in (texts_of table ladder_column)) c.as_bytes-in-rows-2.ensures.value in
     let row : c.in_ok-to_row.field-0 ≡ product_row table k
     = c.in_ok-to_row.ensures ∙ (λ i. row_of cells (category_number i) (ladder_number i)) ∙ sym c.in-Ok.ensures.row in
     record {
@@ -43,8 +43,8 @@ rows-preserved c =
       clean = below_more _ _ was.clean clean;
       rows = pushed ∙ (λ i. was.rows i ++ row i ∷ []) ∙ sym (map-range_with_len_more (product_row table) 0 k k (omega arith));
       names = names_more c.args.model table k inside c.rows.names c.insert.new.self c.as_bytes.result.now clean was.names name c.in_ok-insert.ensures;
-      categories = group_more c.args.model table k inside CATEGORY c.rows.categories c.number.new.self c.as_bytes-in-rows.result.now was.categories category c.in_ok-category.ensures.names;
-      ladders = group_more c.args.model table k inside LADDER c.rows.ladders c.number-in-rows.new.self c.as_bytes-in-rows-2.result.now was.ladders ladder c.in_ok-ladder.ensures.names;
+      categories = group_more c.args.model table k inside category_column c.rows.categories c.number.new.self c.as_bytes-in-rows.result.now was.categories category c.in_ok-category.ensures.names;
+      ladders = group_more c.args.model table k inside ladder_column c.rows.ladders c.number-in-rows.new.self c.as_bytes-in-rows-2.result.now was.ladders ladder c.in_ok-ladder.ensures.names;
     }
 
 pub returns-in-Err-clause-fault : goal.returns-in-Err-clause-fault
@@ -57,14 +57,14 @@ pub number-requires : goal.number-requires
 number-requires c =
     let table = c.args.table.now in
     let inside : c.rows.k < length table.records = omega arith in
-    group_few c.args.model table c.rows.k inside CATEGORY c.rows.categories
+    group_few c.args.model table c.rows.k inside category_column c.rows.categories
     (below_most c.args.model table c.rows.k c.in-Ok.ensures.sound) c.rows.invariant.categories
 
 pub number-requires-in-rows : goal.number-requires-in-rows
 number-requires-in-rows c =
     let table = c.args.table.now in
     let inside : c.rows.k < length table.records = omega arith in
-    group_few c.args.model table c.rows.k inside LADDER c.rows.ladders
+    group_few c.args.model table c.rows.k inside ladder_column c.rows.ladders
     (below_most c.args.model table c.rows.k c.in-Ok.ensures.sound) c.rows.invariant.ladders
 
 pub returns-clause-sound : goal.returns-clause-sound
