@@ -33,6 +33,7 @@ pub ComesAfter-by_product : (node : List Mark) (x : List Bool) (i : ℕ) → i <
     → ((k : ℕ) → k < i → offers (fill_of node) k ≡ offers x k) → offers (fill_of node) i ≢ offers x i → IsTrue (offers (fill_of node) i) ↔ ComesAfter node x
 ComesAfter-by_product node x i l e same apart = let long = length-fill_of node in differs_at (fill_of node) x i (omega arith) (omega arith) same apart
 
+-- A node whose fill is like the assortment comes after it.
 pub ComesAfter-from_alike : (node : List Mark) (x : List Bool) → length x ≡ length node
     → ((k : ℕ) → k < length x → offers (fill_of node) k ≡ offers x k) → ComesAfter node x
 ComesAfter-from_alike node x e same = let long = length-fill_of node in alike (fill_of node) x (omega arith) (λ k m. same k (omega arith))

@@ -1,5 +1,5 @@
 -- Which kind of limits a problem has. Own.
-use Rattle.std.specs.Prelude.{◌==◌, ◌&&◌, if◌then◌else◌, Bool, true, false, List, length}
+use Rattle.std.specs.Prelude.{◌==◌, ◌&&◌, if◌then◌else◌, Bool, List, length}
 use Rattle.std.specs.List.{list_all}
 use Rattle.offer_model.specs.declared.products.Limit.{Limit}
 use Rattle.offer_model.specs.Validity.{is_cap, is_requires, is_shelf, is_ladder}

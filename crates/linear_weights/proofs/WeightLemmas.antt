@@ -34,6 +34,7 @@ sum_at n f start sum z e here =
     let more : int_sum_below (n + 1) f ≡ int_sum_below n f +ℤ f n = rw add-one refl in
     omega (arith, ints, e, here, more)
 
+-- What one product adds at most, from what the calls answered.
 pub most_at : (m k : Mark) (a b c : ℤ) → m ≡ k → a ≡ b → b ≡ c → most_of m a ≡ most_of k c
 most_at m k a b c e f g = cc
 

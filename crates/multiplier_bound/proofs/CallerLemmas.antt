@@ -20,6 +20,7 @@ IsRelaxed-bounds p us at list node y fit r f c =
     let same = greatest_worth-same p node (prices_of list) (relaxed p us at) r.constant r.price in
     subst (λ (z : ℤ). worth_of p at y ≤ℤ z) (sym same) (multipliers_hold p node us at y c f fit)
 
+-- The same of prices that some multipliers have relaxed.
 pub Relaxes-bounds : (p : ProblemData) (at : Prices) (list : WeightsData) (node : List Mark) (y : List Bool) → Relaxes p at list → IsFeasible p y
     → Completes node y → worth_of p at y ≤ℤ greatest_worth p node (prices_of list)
 Relaxes-bounds p at list node y r f c = IsRelaxed-bounds p r.us at list node y r.fit.fit r.relaxed f c

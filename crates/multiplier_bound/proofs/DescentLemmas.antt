@@ -22,6 +22,7 @@ small_is_multiplier (Ladder l) u e h = cc
 small_at : (us : List ℕ) (k : ℕ) → AreSmall us → k < length us → slice_index us k ≤ 2 ^ 100
 small_at us k s l = All-get_or (λ u. u ≤ 2 ^ 100) us k 0 l s
 
+-- Small numbers, one for each limit, are multipliers that fit.
 pub small_fit : (p : ProblemData) (us : List ℕ) → IsProblem p → length us ≡ length (priced_limits p) → AreSmall us → AreFit p us
 small_fit p us v e s = record {
   valid = v;
@@ -41,6 +42,7 @@ held_fit p held now own us v long e lists same s =
 
 -- ---- The limit at a place is in range, and what it names is there.
 
+-- Its number is in range.
 pub priced_in_range : (p : ProblemData) (limits : List Limit) (k : ℕ) (limit : Limit) → IsProblem p → limits ≡ priced_limits p → slice_get limits k ≡ Some limit
     → IsInRange limit
 priced_in_range p limits k limit v e got =
@@ -49,6 +51,7 @@ priced_in_range p limits k limit v e got =
     subst IsInRange (limit_is p limits k limit e got)
     (All-get_or IsInRange (priced_limits p) k (Ladder 0) l (All-filter is_priced IsInRange p.limits v.limits.in_range))
 
+-- What it names is there.
 pub priced_named : (p : ProblemData) (limits : List Limit) (k : ℕ) (limit : Limit) → IsProblem p → limits ≡ priced_limits p → slice_get limits k ≡ Some limit
     → NamesExisting p limit
 priced_named p limits k limit v e got =

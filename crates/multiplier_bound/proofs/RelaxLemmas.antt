@@ -64,6 +64,7 @@ when u m false h = omega arith
 space_few : (p : ProblemData) (i : ℕ) → IsProblem p → i < product_count p → (product_at p i).space ≤ 1000
 space_few p i v l = (All-get_or IsProduct p.products i no_product l v.products).space
 
+-- What one multiplier takes off a price is small.
 pub taken_small : (p : ProblemData) (limit : Limit) (u i : ℕ) → IsProblem p → i < product_count p → IsNumber limit u → taken_by p limit u i ≤ 2 ^ 110
 taken_small p (Total cap) u i v l h = let most = h.fits in omega arith
 taken_small p (Category c cap) u i v l h = let most = h.fits in let less = times_flag u (2 ^ 100) ((product_at p i).category == c) most in omega arith
@@ -71,6 +72,7 @@ taken_small p (Shelf space) u i v l h = let less = mul-le-mul h.fits (space_few 
 taken_small p (Requires a b) u i v l h = let less = when u (2 ^ 108) (i == a) h.small in omega arith
 taken_small p (Ladder k) u i v l h = absurd h.fits
 
+-- What it adds to one is.
 pub added_small : (limit : Limit) (u i : ℕ) → IsNumber limit u → added_by limit u i ≤ 2 ^ 108
 added_small (Requires a b) u i h = when u (2 ^ 108) (i == b) h.small
 added_small (Total cap) u i h = omega arith
@@ -78,6 +80,7 @@ added_small (Category c cap) u i h = omega arith
 added_small (Shelf space) u i h = omega arith
 added_small (Ladder k) u i h = omega arith
 
+-- And what it adds to the constant.
 pub allowed_small : (limit : Limit) (u : ℕ) → IsInRange limit → IsNumber limit u → allowed_by limit u ≤ 2 ^ 110
 allowed_small (Total cap) u r h = let less = mul-le-mul h.fits r in omega arith
 allowed_small (Category c cap) u r h = let less = mul-le-mul h.fits r in omega arith
@@ -119,18 +122,22 @@ added_in_all (Ladder k) u n h = let all = sum_most n 0 (λ i. 0) (λ i k. omega 
 number_small : (us : List ℕ) (k : ℕ) → AreNumbers us → k < length us → slice_index us k ≤ 2 ^ 108
 number_small us k a l = All-get_or (λ n. n ≤ 2 ^ 108) us k 0 l (All-from_recursion (λ n. n ≤ 2 ^ 108) us a)
 
+-- Each of the multipliers fits its limit.
 pub number_is : (p : ProblemData) (us : List ℕ) (k : ℕ) → AreFit p us → k < length us → IsNumber (priced_limit_at p k) (slice_index us k)
 number_is p us k f l = record { fits = f.fit.small k l; small = number_small us k f.numbers l }
 
+-- There are at most 1,024 of them.
 pub us_few : (p : ProblemData) (us : List ℕ) → AreFit p us → length us ≤ 1024
 us_few p us f = let each = f.fit.each in let few = priced_limits-few p f.valid in omega arith
 
 inside_priced : (p : ProblemData) (us : List ℕ) (k : ℕ) → AreFit p us → k < length us → k < length (priced_limits p)
 inside_priced p us k f l = let each = f.fit.each in omega arith
 
+-- The number of each limit is in range.
 pub range_is : (p : ProblemData) (us : List ℕ) (k : ℕ) → AreFit p us → k < length us → IsInRange (priced_limit_at p k)
 range_is p us k f l = All-get_or IsInRange (priced_limits p) k (Ladder 0) (inside_priced p us k f l) (All-filter is_priced IsInRange p.limits f.valid.limits.in_range)
 
+-- What each limit names is there.
 pub named_is : (p : ProblemData) (us : List ℕ) (k : ℕ) → AreFit p us → k < length us → NamesExisting p (priced_limit_at p k)
 named_is p us k f l = All-get_or (NamesExisting p) (priced_limits p) k (Ladder 0) (inside_priced p us k f l) (All-filter is_priced (NamesExisting p) p.limits f.valid.limits.named)
 
@@ -171,6 +178,7 @@ added_bounded p us n f =
 
 -- ---- While the multipliers come, one after the other.
 
+-- What the first k take off a price is small.
 pub taken_so_far : (p : ProblemData) (us : List ℕ) (k i : ℕ) → AreFit p us → k ≤ length us → i < product_count p
     → sum_below k (λ j. taken_by p (priced_limit_at p j) (slice_index us j) i) ≤ 2 ^ 120
 taken_so_far p us k i f l h =
@@ -178,12 +186,14 @@ taken_so_far p us k i f l h =
     let all = sum_most k (2 ^ 110) (λ j. taken_by p (priced_limit_at p j) (slice_index us j) i) (λ j lj. taken_small p (priced_limit_at p j) (slice_index us j) i f.valid h (number_is p us j f (omega arith))) in
     omega arith
 
+-- What they add to one is.
 pub added_so_far : (p : ProblemData) (us : List ℕ) (k i : ℕ) → AreFit p us → k ≤ length us → sum_below k (λ j. added_by (priced_limit_at p j) (slice_index us j) i) ≤ 2 ^ 118
 added_so_far p us k i f l =
     let few = us_few p us f in
     let all = sum_most k (2 ^ 108) (λ j. added_by (priced_limit_at p j) (slice_index us j) i) (λ j lj. added_small (priced_limit_at p j) (slice_index us j) i (number_is p us j f (omega arith))) in
     omega arith
 
+-- And what they add to the constant.
 pub allowed_so_far : (p : ProblemData) (us : List ℕ) (k : ℕ) → AreFit p us → k ≤ length us → sum_below k (λ j. allowed_by (priced_limit_at p j) (slice_index us j)) ≤ 2 ^ 120
 allowed_so_far p us k f l =
     let few = us_few p us f in
@@ -203,6 +213,7 @@ relaxed_small p us w list k i f s l r h =
     let up = added_so_far p us k i f l in
     moved_within (weight_at w i) (weight_at list i) _ _ (wider (weight_at w i) (s.small i h)) (omega arith) (taken_so_far p us k i f l h) (r.price i h)
 
+-- So is the constant on the way.
 pub constant_small : (p : ProblemData) (us : List ℕ) (w : WeightsData) (list : WeightsData) (k : ℕ) → AreFit p us → AreWeights p w → k ≤ length us
     → AreRelaxed p us (prices_of w) list k → IsWithin (2 ^ 122) list.constant
 constant_small p us w list k f s l r =
@@ -217,6 +228,7 @@ next_price a b c up down u d e h = omega (arith, ints)
 next_constant : (a b c : ℤ) (up u : ℕ) → b ≡ a +ℤ pos up → c ≡ b +ℤ pos u → c ≡ a +ℤ pos (up + u)
 next_constant a b c up u e h = omega (arith, ints)
 
+-- One more multiplier moves prices and constant on.
 pub relaxed_more : (p : ProblemData) (us : List ℕ) (at : Prices) (list next : WeightsData) (k : ℕ) → AreRelaxed p us at list k
     → IsMoved p (priced_limit_at p k) (slice_index us k) (prices_of list) next → AreRelaxed p us at next (k + 1)
 relaxed_more p us at list next k r m = record {
@@ -266,6 +278,7 @@ sums_within : (c z : ℤ) (allowed n up down : ℕ) → IsWithin (2 ^ 106) c →
     → z ≤ℤ pos (n * 2 ^ 98 + up) → pos 0 ≤ℤ (z +ℤ pos (n * 2 ^ 98 + down)) → IsWithin (2 ^ 126) ((c +ℤ pos allowed) +ℤ z)
 sums_within c z allowed n up down w a few u d high low = let one = w.0 in let two = w.1 in (omega (arith, ints), omega (arith, ints))
 
+-- Sums of the prices that all have moved fit.
 pub relaxed_sums_fit : (p : ProblemData) (node : List Mark) (us : List ℕ) (w : WeightsData) → AreFit p us → AreWeights p w → SumsFit p node (relaxed p us (prices_of w))
 relaxed_sums_fit p node us w f s n l =
     let few = f.valid.few in
@@ -276,9 +289,11 @@ relaxed_sums_fit p node us w f s n l =
 
 -- ---- The limit at a place.
 
+-- The limit as the code reads it is the one of the definition.
 pub limit_is : (p : ProblemData) (limits : List Limit) (k : ℕ) (limit : Limit) → limits ≡ priced_limits p → slice_get limits k ≡ Some limit → priced_limit_at p k ≡ limit
 limit_is p limits k limit e got = ap (λ z. get_or z k (Ladder 0)) (sym e) ∙ get_or_from_slice_get limits k limit (Ladder 0) got
 
+-- A limit with a multiplier is kept.
 pub kept_yes : (limits kept next : List Limit) (k : ℕ) (limit : Limit) → slice_get limits k ≡ Some limit → is_priced limit ≡ true
     → kept ≡ filter is_priced (take k limits) → next ≡ kept ++ limit ∷ [] → next ≡ filter is_priced (take (k + 1) limits)
 kept_yes limits kept next k limit got priced was is =
@@ -287,6 +302,7 @@ kept_yes limits kept next k limit got priced was is =
     let more = filter_more is_priced limits k limit inside in
     is ∙ ap (λ z. z ++ limit ∷ []) was ∙ sym (more ∙ rw (here, priced) refl)
 
+-- One without isn't.
 pub kept_no : (limits kept : List Limit) (k : ℕ) (limit : Limit) → slice_get limits k ≡ Some limit → is_priced limit ≡ false
     → kept ≡ filter is_priced (take k limits) → kept ≡ filter is_priced (take (k + 1) limits)
 kept_no limits kept k limit got no_price was =

@@ -4,6 +4,7 @@ use Rattle.offer_model.specs.Problems.{ProblemData}
 use Rattle.offer_model.specs.Best.{IsBest}
 use Rattle.offer_model.proofs.TieLemmas.{IsBefore-asym}
 
+-- Two best assortments are not different.
 pub IsBest-unique : (p : ProblemData) (x y : List Bool) → IsBest p x → IsBest p y → (x ≢ y → ⊥)
 IsBest-unique p x y a b d = IsBefore-asym x y
     (a.first y b.feasible (λ e. d (sym e)) (λ m. b.most x a.feasible m))

@@ -15,6 +15,7 @@ use Rattle.offer_model.specs.Nodes.{mark_at, open_node, Agrees, Completes, fill_
 use Rattle.offer_model.specs.Prices.{Prices, worth_of, greatest_worth, most_of}
 use Rattle.offer_model.proofs.SumLemmas.{sum_mono, sum_le}
 
+-- A completion agrees with the mark of each product.
 pub Completes-agrees : (node : List Mark) (y : List Bool) → Completes node y → (i : ℕ) → Agrees (mark_at node i) (offers y i)
 Completes-agrees [] [] c i = refl
 Completes-agrees (m ∷ node) (b ∷ y) c zero = c.0
@@ -22,6 +23,7 @@ Completes-agrees (m ∷ node) (b ∷ y) c (suc i) = Completes-agrees node y c.1 
 Completes-agrees [] (b ∷ y) c i = absurd c
 Completes-agrees (m ∷ node) [] c i = absurd c
 
+-- A completion is as long as the node.
 pub Completes-length : (node : List Mark) (y : List Bool) → Completes node y → length y ≡ length node
 Completes-length [] [] c = refl
 Completes-length (m ∷ node) (b ∷ y) c = let l = Completes-length node y c.1 in omega arith
@@ -58,6 +60,7 @@ settled_completes p node y f c = c
 
 -- ---- What a completion is worth.
 
+-- What agrees with a mark adds no more than the mark allows.
 pub worth_at : (m : Mark) (b : Bool) (z : ℤ) → Agrees m b → cond b z (pos 0) ≤ℤ most_of m z
 worth_at In true z a = omega (arith, ints)
 worth_at In false z a = cc
@@ -86,6 +89,7 @@ fill_offered (Open ∷ node) (b ∷ y) c zero h = cc
 fill_offered [] y c i h = cc
 fill_offered (m ∷ node) [] c i h = absurd c
 
+-- A product that is offered where another choice offers it adds no more.
 pub fewer_here : (a b : Bool) (f : ℕ) → (a ≡ true → b ≡ true) → cond a f 0 ≤ cond b f 0
 fewer_here false b f h = omega arith
 fewer_here true b f h = rw (h refl) (omega arith)
@@ -101,6 +105,7 @@ pub breaks_too : (p : ProblemData) (x y : List Bool) (f : ℕ → ℕ) (cap : �
     → sum_below (product_count p) (λ i. cond (offers y i) (f i) 0) ≤ cap → ⊥
 breaks_too p x y f cap h k m = let le = fewer (product_count p) (offers x) (offers y) f h in k (omega arith)
 
+-- A completion breaks a limit with which the node clashes.
 pub clash_at : (p : ProblemData) (node : List Mark) (y : List Bool) (limit : Limit) → Completes (settled_node p node) y → ClashesAt p node limit → Meets p y limit → ⊥
 clash_at p node y (Requires a b) c k m =
     let e = Completes-agrees (settled_node p node) y c a in

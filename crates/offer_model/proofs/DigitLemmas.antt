@@ -13,5 +13,6 @@ digit_more bs i value inside digit e =
     let is = digit_value_digit (get_or bs i 0) digit in
     grind arith
 
+-- A number of one more digit is below the next power of ten.
 pub digit_bound : (i value digit : ℕ) → value < 10 ^ i → digit < 10 → value * 10 + digit < 10 ^ (i + 1)
 digit_bound i value digit small one = rw add-one (grind arith)

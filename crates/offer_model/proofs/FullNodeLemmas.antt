@@ -1,13 +1,12 @@
 -- Nodes of which everything is settled: what is In is feasible where the node doesn't clash, and completes what it agrees with.
-use Rattle.std.proofs.Common.{◌≡◌, ℕ, zero, suc, ◌<◌, ◌≤◌, true, false, List, [], ◌∷◌, length, get_or, refl, arith, inl, inr}
+use Rattle.std.proofs.Common.{◌≡◌, ℕ, ◌<◌, true, List, length, get_or, refl, arith}
 use Rattle.offer_model.specs.declared.node.Mark.{Mark}
 use Rattle.offer_model.specs.declared.node.Mark.TheVariants.{In, Out, Open}
-use Rattle.offer_model.specs.declared.products.Product.{Product}
 use Rattle.offer_model.specs.declared.products.Limit.{Limit}
 use Rattle.offer_model.specs.declared.products.Limit.TheVariants.{Total, Category, Requires, Shelf, Ladder}
 use Rattle.offer_model.specs.Assortments.{offers}
 use Rattle.offer_model.specs.Problems.{ProblemData, product_count, product_at}
-use Rattle.offer_model.specs.Limits.{MayStand, Meets, IsFeasible}
+use Rattle.offer_model.specs.Limits.{Meets, IsFeasible}
 use Rattle.offer_model.specs.Nodes.{mark_at, Agrees, Completes, fill_of, ClashesAt, Clashes}
 use Rattle.offer_model.proofs.CompletionLemmas.{Completes-from_marks}
 use Rattle.offer_model.proofs.ListLemmas.{get_or-any}

@@ -1,5 +1,5 @@
 -- Limits one by one: how many have a multiplier, and what isn't denied of them holds.
-use Rattle.std.proofs.Common.{◌≡◌, ◌≢◌, ℕ, ◌<◌, ◌≤◌, List, length, arith, inl, inr}
+use Rattle.std.proofs.Common.{ℕ, ◌≤◌, length, arith, inl, inr}
 use Rattle.std.proofs.lemmas.Bool.{cases_lt}
 use Rattle.std.proofs.lemmas.List.Sums.{length-filter, count_by-le-length}
 use Rattle.offer_model.specs.declared.products.Product.{Product}

@@ -18,11 +18,13 @@ use Rattle.std.proofs.lemmas.List.Elements.{recursion_from_All, All-from_recursi
 use Rattle.offer_model.proofs.CompletionLemmas.{worth_of-le, settled_completes}
 use Rattle.offer_model.proofs.SumLemmas.{over, over_add, over_times, sum_le, sum_moved, point, point_le, point_false, point_true}
 
+-- A product that is offered is one of the products.
 pub offered_below : (y : List Bool) (c : ℕ) → offers y c ≡ true → (n : ℕ) → length y ≡ n → c < n
 offered_below [] c h n l = cc
 offered_below (b ∷ y) zero h n l = omega arith
 offered_below (b ∷ y) (suc c) h n l = let k = offered_below y c h (length y) refl in omega arith
 
+-- What is taken off where the first product is offered is added where the second is.
 pub shift_cases : (p : ProblemData) (y : List Bool) (u a c : ℕ) (v : Bool) → offers y a ≡ v → length y ≡ product_count p → (IsTrue v → IsTrue (offers y c))
     → point (product_count p) (offers y) u a ≤ point (product_count p) (offers y) u c
 shift_cases p y u a c false e l h = rw (point_false (product_count p) (offers y) u a e) (omega arith)
@@ -33,12 +35,14 @@ shift_cases p y u a c true e l h =
     let other = point_true (product_count p) (offers y) u c inside there in
     omega arith
 
+-- What keeps to a cap pays at most the price of the cap.
 pub by_units : (n : ℕ) (y : ℕ → Bool) (u cap : ℕ) (use_of : ℕ → ℕ) → over n y use_of ≤ cap → over n y (λ i. u * use_of i) ≤ u * cap
 by_units n y u cap use_of h =
     let e = over_times n y u use_of in
     let le : u * over n y use_of ≤ u * cap = mul-le-mul_left u h in
     omega arith
 
+-- A sum of zeros over what is offered is 0.
 pub over_none : (n : ℕ) (y : ℕ → Bool) → over n y (λ i. 0) ≡ 0
 over_none zero y = refl
 over_none (suc n) y = let k = over_none n y in elim (y n) as (λ v. over n y (λ i. 0) + cond v 0 0 ≡ 0) [ true ↦ omega arith | false ↦ omega arith ]
@@ -57,10 +61,12 @@ taken_by_le p y l (Shelf cap) u m = let most = by_units (product_count p) (offer
 taken_by_le p y l (Requires a c) u m = let k = shift_cases p y u a c (offers y a) refl l m in omega arith
 taken_by_le p y l (Ladder k) u m = let e = over_none (product_count p) (offers y) in omega arith
 
+-- The sum of sums is the sum of both.
 pub sum_split : (m : ℕ) (f g : ℕ → ℕ) → sum_below m (λ k. f k + g k) ≡ sum_below m f + sum_below m g
 sum_split zero f g = refl
 sum_split (suc m) f g = let before = sum_split m f g in omega arith
 
+-- What all multipliers take off such an assortment, they allow and add.
 pub taken_le : (p : ProblemData) (y : List Bool) (us : List ℕ) → length y ≡ product_count p → ((k : ℕ) → k < length us → Meets p y (priced_limit_at p k))
     → over (product_count p) (offers y) (taken_off p us) ≤ allowed_in_all p us + over (product_count p) (offers y) (added_to p us)
 taken_le p y us l m =
@@ -80,6 +86,7 @@ relaxed_raises p us b y l m =
     let e = sum_moved (product_count p) (offers y) b.price (added_to p us) (taken_off p us) in
     omega (arith, ints)
 
+-- Limits that are picked from limits which are met are met.
 pub filter_meets : (P : Limit → Type 0) (test : Limit → Bool) (limits : List Limit) → AllByRecursion P limits → AllByRecursion P (filter test limits)
 filter_meets P test [] m = tt
 filter_meets P test (limit ∷ limits) m = elim (test limit) as (λ v. AllByRecursion P (cond v (limit ∷ filter test limits) (filter test limits)))

@@ -25,6 +25,7 @@ use Rattle.offer_model.proofs.SumLemmas.{sum_mono, int_sum_below-add, int_sum_be
 abbrev pub sum_where : ℕ → (ℕ → Bool) → (ℕ → ℤ) → ℤ
 sum_where n s f = int_sum_below n (λ i. cond (s i) (f i) (pos 0))
 
+-- A sum over no product is 0.
 pub sum_none : (n : ℕ) (s : ℕ → Bool) (f : ℕ → ℤ) → ((i : ℕ) → i < n → s i ≡ true → ⊥) → sum_where n s f ≡ pos 0
 sum_none zero s f h = refl
 sum_none (suc n) s f h =
@@ -36,6 +37,7 @@ sum_none (suc n) s f h =
     none_here true z h = absurd (h refl)
     none_here false z h = refl
 
+-- A sum over one product is its term.
 pub sum_single : (n : ℕ) (s : ℕ → Bool) (f : ℕ → ℤ) (i : ℕ) → i < n → s i ≡ true → ((j : ℕ) → j < n → s j ≡ true → j ≡ i) → sum_where n s f ≡ f i
 sum_single zero s f i l t one = absurd (omega arith)
 sum_single (suc n) s f i l t one = elim (s n) as (λ v. s n ≡ v → sum_where n s f +ℤ cond v (f n) (pos 0) ≡ f i) [
@@ -59,6 +61,7 @@ by_last P n below here i l = elim (ltb i n) as (λ v. ltb i n ≡ v → P i) [
   | false ↦ λ e. let same : n ≡ i = grind (arith, nat_tests) in subst P same here
 ] refl
 
+-- Some product passes the test, or none does.
 pub find : (n : ℕ) (s : ℕ → Bool) → ((i : ℕ) × (i < n) × (s i ≡ true)) ⊎ ((i : ℕ) → i < n → s i ≡ true → ⊥)
 find zero s = inr (λ i l t. omega arith)
 find (suc n) s = elim (s n) as (λ v. s n ≡ v → ((i : ℕ) × (i < suc n) × (s i ≡ true)) ⊎ ((i : ℕ) → i < suc n → s i ≡ true → ⊥)) [
@@ -66,26 +69,32 @@ find (suc n) s = elim (s n) as (λ v. s n ≡ v → ((i : ℕ) × (i < suc n) ×
   | false ↦ λ e. ⊎_elim (λ f. inl (f.0, omega arith, f.2)) (λ h. inr (by_last (λ i. s i ≡ true → ⊥) n h (λ t. cc))) (find n s)
 ] refl
 
+-- Finitely many numbers have a bound.
 pub bounded : (n : ℕ) (f : ℕ → ℕ) → (g : ℕ) × ((i : ℕ) → i < n → f i < g)
 bounded zero f = (0, λ i l. absurd (omega arith))
 bounded (suc n) f = let b = bounded n f in (max b.0 (f n + 1), by_last (λ i. f i < max b.0 (f n + 1)) n (λ i l. let k = b.1 i l in omega arith) (omega arith))
 
+-- Of two tests that both hold the first holds.
 pub and_left : (a b : Bool) → (a && b) ≡ true → a ≡ true
 and_left true b h = refl
 and_left false b h = cc
 
+-- And the second.
 pub and_right : (a b : Bool) → (a && b) ≡ true → b ≡ true
 and_right true b h = h
 and_right false b h = cc
 
+-- What is from grade m on is not below it.
 pub none_from : (b : Bool) (m g : ℕ) → (b && leb m g) ≡ true → g < m → ⊥
 none_from true m g t l = grind (arith, nat_tests)
 none_from false m g t l = cc
 
+-- From a grade on is at that grade or from the next on.
 pub split : (b : Bool) (m g : ℕ) (z : ℤ) → cond (b && leb m g) z (pos 0) ≡ cond (b && leb (suc m) g) z (pos 0) +ℤ cond (b && eqb g m) z (pos 0)
 split false m g z = refl
 split true m g z = grind (arith, nat_tests, ints)
 
+-- From grade 0 on is all.
 pub whole : (b : Bool) (g : ℕ) (z : ℤ) → cond b z (pos 0) ≡ cond (b && leb 0 g) z (pos 0) +ℤ pos 0
 whole true g z = grind (arith, nat_tests, ints)
 whole false g z = refl
@@ -168,15 +177,18 @@ module _ (n : ℕ) (s : ℕ → Bool) (price : ℕ → ℤ) (grade cost top : �
 
 -- ---- All ladders.
 
+-- What isn't the first of two is the second.
 pub later : (a b : Bool) → not a ≡ true → cond a true b ≡ true → b ≡ true
 later true b n t = cc
 later false b n t = t
 
+-- A term, by whether a second test passes.
 pub two : (b e : Bool) (z : ℤ) → cond b z (pos 0) ≡ cond (b && e) z (pos 0) +ℤ cond (b && not e) z (pos 0)
 two false e z = refl
 two true true z = omega (arith, ints)
 two true false z = omega (arith, ints)
 
+-- What tests as Open is.
 pub is_open-true : (m : Mark) → is_open m ≡ true → m ≡ Open
 is_open-true In h = cc
 is_open-true Out h = cc
@@ -186,6 +198,7 @@ is_open-true Open h = refl
 abbrev pub chosen : ProblemData → List Mark → List Bool → ℕ → Bool
 chosen p node y i = offers y i && (is_open (settled_mark p node i) && is_limited p.limits (ladder_of p i))
 
+-- A product is beside the ladders or chosen on one.
 pub apart_term : (m : Mark) (v limited : Bool) (z : ℤ) → Agrees m v → cond v z (pos 0) ≤ℤ (most_beside m limited z +ℤ cond (v && (is_open m && limited)) z (pos 0))
 apart_term In true limited z a = omega (arith, ints)
 apart_term In false limited z a = cc
@@ -198,6 +211,7 @@ apart_term Open false true z a = omega (arith, ints)
 apart_term Open false false (pos n) a = omega (arith, ints)
 apart_term Open false false (negsuc n) a = omega (arith, ints)
 
+-- A potential is at most the greatest of its ladder.
 pub top_le : (p : ProblemData) (us : List ℕ) (l n i : ℕ) → i < n → ladder_of p i ≡ l → slice_index us i ≤ ladder_top p us l n
 top_le p us l zero i h e = absurd (omega arith)
 top_le p us l (suc n) i h e = by_last (λ i. ladder_of p i ≡ l → slice_index us i ≤ ladder_top p us l (suc n)) n
@@ -244,6 +258,7 @@ module _ (p : ProblemData) (node : List Mark) (us : List ℕ) (price : ℕ → �
   all_ladders (Shelf cap ∷ limits) s m ch li = all_ladders limits s m.1 ch li
   all_ladders (Requires a d ∷ limits) s m ch li = all_ladders limits s m.1 ch li
 
+-- The bound of potentials is at least what a feasible completion is worth.
 pub potentials_hold : (p : ProblemData) (node : List Mark) (us : List ℕ) (b : Prices) (y : List Bool) → Completes node y → IsFeasible p y
     → PotentialsFit p node b.price us → worth_of p b y ≤ℤ potentials_bound p node us b
 potentials_hold p node us b y agree f k =

@@ -23,16 +23,19 @@ abbrev pub Reaches : Option ℤ → ℤ → Type 0
 Reaches None w = ⊥
 Reaches (Some z) w = w ≤ℤ z
 
+-- The greater of two sums reaches what the first does.
 pub larger_left : (a b : Option ℤ) (w : ℤ) → Reaches a w → Reaches (greater_of a b) w
 larger_left None b w h = absurd h
 larger_left (Some a) None w h = h
 larger_left (Some a) (Some b) w h = omega (arith, ints, clamps)
 
+-- And what the second does.
 pub larger_right : (a b : Option ℤ) (w : ℤ) → Reaches b w → Reaches (greater_of a b) w
 larger_right None b w h = h
 larger_right (Some a) None w h = absurd h
 larger_right (Some a) (Some b) w h = omega (arith, ints, clamps)
 
+-- A product that is left out changes no sum.
 pub left_out : (m : Mark) (o : Option ℤ) (w : ℤ) → Agrees m false → Reaches o w → Reaches (leaving_out m o) (w +ℤ pos 0)
 left_out In o w a h = cc
 left_out Out None w a h = h
@@ -40,6 +43,7 @@ left_out Out (Some z) w a h = omega (arith, ints)
 left_out Open None w a h = h
 left_out Open (Some z) w a h = omega (arith, ints)
 
+-- A product that fits adds its price.
 pub put_in : (m : Mark) (fits : Bool) (price : ℤ) (o : Option ℤ) (w : ℤ) → Agrees m true → fits ≡ true → Reaches o w → Reaches (offering m fits (raised_by price o)) (w +ℤ price)
 put_in Out fits price o w a f h = cc
 put_in m fits price None w a f h = absurd h
@@ -47,6 +51,7 @@ put_in In true price (Some z) w a f h = omega (arith, ints)
 put_in Open true price (Some z) w a f h = omega (arith, ints)
 put_in m false price o w a f h = cc
 
+-- One more product.
 pub in_space_step : (p : ProblemData) (node : List Mark) (price : ℕ → ℤ) (k room used : ℕ) (w : ℤ) (b : Bool) → Agrees (mark_at node k) b
     → used + cond b (product_at p k).space 0 ≤ room
     → ((r : ℕ) → used ≤ r → Reaches (best_in_space p node price k r) w)
@@ -57,6 +62,7 @@ in_space_step p node price k room used w true a fits rest =
 in_space_step p node price k room used w false a fits rest =
     larger_left _ _ _ (left_out (mark_at node k) (best_in_space p node price k room) w a (rest room (omega arith)))
 
+-- The table reaches what each completion that fits is worth.
 pub in_space_reaches : (p : ProblemData) (node : List Mark) (price : ℕ → ℤ) (y : List Bool) → Completes node y → (k room : ℕ)
     → sum_below k (λ i. cond (offers y i) (product_at p i).space 0) ≤ room
     → Reaches (best_in_space p node price k room) (int_sum_below k (λ i. cond (offers y i) (price i) (pos 0)))
@@ -65,10 +71,12 @@ in_space_reaches p node price y c (suc k) room fits =
     in_space_step p node price k room (sum_below k (λ i. cond (offers y i) (product_at p i).space 0)) (int_sum_below k (λ i. cond (offers y i) (price i) (pos 0))) (offers y k)
     (Completes-agrees node y c k) fits (λ r l. in_space_reaches p node price y c k r l)
 
+-- A constant raises both alike.
 pub raised_holds : (a z w : ℤ) (o : Option ℤ) → Reaches o w → raised_by a o ≡ Some z → (a +ℤ w) ≤ℤ z
 raised_holds a z w None h e = absurd h
 raised_holds a z w (Some b) h e = let same : a +ℤ b ≡ z = cc in omega (arith, ints)
 
+-- The bound by the first shelf holds of what meets the limits.
 pub holds_in_space : (p : ProblemData) (marks : List Mark) (at : Prices) (y : List Bool) (limits : List Limit) → Completes marks y → AllByRecursion (Meets p y) limits
     → (z : ℤ) → bound_in_space p marks at (shelf_space limits) ≡ Some z → worth_of p at y ≤ℤ z
 holds_in_space p marks at y [] c m z e = cc

@@ -19,6 +19,7 @@ sum_below-same (suc n) f g h =
     let here = h n (omega arith) in
     omega (arith, before, here)
 
+-- The same of whole numbers.
 pub int_sum_below-same : (n : ℕ) (f g : ℕ → ℤ) → ((i : ℕ) → i < n → f i ≡ g i) → int_sum_below n f ≡ int_sum_below n g
 int_sum_below-same zero f g same = refl
 int_sum_below-same (suc n) f g same = two (int_sum_below-same n f g (λ i l. same i (omega arith))) (same n (omega arith))
@@ -34,6 +35,7 @@ sum_below-zeros (suc n) f h =
     let here = h n (omega arith) in
     omega (arith, before, here)
 
+-- The same of whole numbers.
 pub int_sum_below-zeros : (n : ℕ) (f : ℕ → ℤ) → ((i : ℕ) → i < n → f i ≡ pos 0) → int_sum_below n f ≡ pos 0
 int_sum_below-zeros zero f h = refl
 int_sum_below-zeros (suc n) f h =
@@ -111,6 +113,7 @@ point n y u a = sum_below n (λ i. cond (y i) (cond (eqb i a) u 0) 0)
 abbrev pub over : ℕ → (ℕ → Bool) → (ℕ → ℕ) → ℕ
 over n y f = sum_below n (λ i. cond (y i) (f i) 0)
 
+-- The sum of sums is the sum of both.
 pub over_add : (n : ℕ) (y : ℕ → Bool) (f g : ℕ → ℕ) → over n y (λ i. f i + g i) ≡ over n y f + over n y g
 over_add zero y f g = refl
 over_add (suc n) y f g =
@@ -118,12 +121,14 @@ over_add (suc n) y f g =
     elim (y n) as (λ v. over n y (λ i. f i + g i) + cond v (f n + g n) 0 ≡ over n y f + cond v (f n) 0 + (over n y g + cond v (g n) 0))
     [ true ↦ omega arith | false ↦ omega arith ]
 
+-- A factor of each term is one of the sum.
 pub over_times : (n : ℕ) (y : ℕ → Bool) (u : ℕ) (f : ℕ → ℕ) → over n y (λ i. u * f i) ≡ u * over n y f
 over_times zero y u f = omega arith
 over_times (suc n) y u f =
     let before = over_times n y u f in
     elim (y n) as (λ v. over n y (λ i. u * f i) + cond v (u * f n) 0 ≡ u * (over n y f + cond v (f n) 0)) [ true ↦ omega arith | false ↦ omega arith ]
 
+-- Equal terms have equal sums.
 pub over_same : (n : ℕ) (y : ℕ → Bool) (f g : ℕ → ℕ) → ((i : ℕ) → f i ≡ g i) → over n y f ≡ over n y g
 over_same zero y f g e = refl
 over_same (suc n) y f g e = let before = over_same n y f g e in let here = e n in rw (before, here) refl
@@ -140,6 +145,7 @@ sum_moved (suc n) y price up down =
     ≡ int_sum_below n (λ i. cond (y i) (price i) (pos 0)) +ℤ cond v (price n) (pos 0) +ℤ pos (over n y up + cond v (up n) 0))
     [ true ↦ omega (arith, ints) | false ↦ omega (arith, ints) ]
 
+-- The same of numbers from 0 on.
 pub sum_le : (n : ℕ) (f g : ℕ → ℕ) → ((i : ℕ) → i < n → f i ≤ g i) → sum_below n f ≤ sum_below n g
 sum_le zero f g h = omega arith
 sum_le (suc n) f g h =
@@ -147,10 +153,12 @@ sum_le (suc n) f g h =
     let here = h n (omega arith) in
     omega arith
 
+-- One more product keeps a sum of one term within it.
 pub point_step : (s n a u : ℕ) (b : Bool) → (n ≤ a → s ≡ 0) → s ≤ u → s + cond b (cond (eqb n a) u 0) 0 ≤ u
 point_step s n a u true h k = grind (arith, nat_tests)
 point_step s n a u false h k = omega arith
 
+-- Before its product the sum is 0.
 pub point_none : (n : ℕ) (y : ℕ → Bool) (u a : ℕ) → n ≤ a → point n y u a ≡ 0
 point_none zero y u a l = refl
 point_none (suc n) y u a l =
@@ -158,14 +166,17 @@ point_none (suc n) y u a l =
     let other : eqb n a ≡ false = grind (arith, nat_tests) in
     rw (before, other) (elim (y n) as (λ v. 0 + cond v (cond false u 0) 0 ≡ 0) [ true ↦ refl | false ↦ refl ])
 
+-- It is at most its term.
 pub point_le : (n : ℕ) (y : ℕ → Bool) (u a : ℕ) → point n y u a ≤ u
 point_le zero y u a = omega arith
 point_le (suc n) y u a = point_step (point n y u a) n a u (y n) (point_none n y u a) (point_le n y u a)
 
+-- It is 0 where the product isn't among them.
 pub point_false : (n : ℕ) (y : ℕ → Bool) (u a : ℕ) → y a ≡ false → point n y u a ≡ 0
 point_false zero y u a h = refl
 point_false (suc n) y u a h = let before = point_false n y u a h in grind (arith, nat_tests)
 
+-- It is its term where the product is.
 pub point_true : (n : ℕ) (y : ℕ → Bool) (u a : ℕ) → a < n → y a ≡ true → u ≤ point n y u a
 point_true zero y u a l h = absurd (omega arith)
 point_true (suc n) y u a l h = let before = point_true n y u a in grind (arith, nat_tests)

@@ -5,6 +5,7 @@ use Rattle.offer_model.specs.declared.node.Mark.TheVariants.{In, Out, Open}
 use Rattle.offer_model.specs.Assortments.{IsBefore}
 use Rattle.offer_model.specs.Nodes.{Completes, fill_of}
 
+-- Of two assortments not both are before the other.
 pub IsBefore-asym : (x y : List Bool) → IsBefore x y → IsBefore y x → ⊥
 IsBefore-asym [] y h k = h
 IsBefore-asym (b ∷ x) [] h k = h

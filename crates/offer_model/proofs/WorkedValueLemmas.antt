@@ -9,6 +9,7 @@ use Rattle.offer_model.specs.Revenue.{EarnsMore}
 use Rattle.offer_model.specs.Best.{IsBest}
 use Rattle.offer_model.specs.WorkedValues.{RevenueIsWorked, OrderIsWorked, LimitsAreWorked, BestIsWorked, two_products, a_tie, one_of_two, three_kinds, both, only_first, only_second, first_and_third}
 
+-- Gains, weights, chances and rounded revenues.
 pub revenue_worked : RevenueIsWorked
 revenue_worked = record {
   gain = refl;
@@ -22,6 +23,7 @@ revenue_worked = record {
   as_much = λ h. omega arith;
 }
 
+-- The order of ties.
 pub order_worked : OrderIsWorked
 order_worked = record { before = tt; not_after = λ h. h; later_of_equals = tt; not_itself = λ h. h }
 
@@ -38,6 +40,7 @@ ladder_met (suc (suc zero)) (suc (suc zero)) a b differ x y k l = absurd (differ
 ladder_met (suc (suc zero)) (suc (suc (suc j))) a b differ x y k l = absurd (omega arith)
 ladder_met (suc (suc (suc i))) j a b differ x y k l = absurd (omega arith)
 
+-- Limits that are met and broken.
 pub limits_worked : LimitsAreWorked
 limits_worked = record {
   total = lit≤ tt;
@@ -98,5 +101,6 @@ best_of_one = record {
       (λ f other less. absurd (not_both f)) (λ f other less. tt) (λ f other less. absurd (other refl)) (λ f other less. absurd (less (lit< tt))) y f.0 f;
 }
 
+-- Best assortments, with a tie and with a cap.
 pub best_worked : BestIsWorked
 best_worked = record { all = best_of_all; tie = best_of_a_tie; capped = best_of_one }

@@ -44,12 +44,14 @@ sums_above (suc n) y r v w c u =
     +ℤ pos (u * (sum_below n (λ i. cond (y i) (v i) (w i)) + cond b (v n) (w n)))))
     [ true ↦ omega (arith, ints) | false ↦ omega (arith, ints) ]
 
+-- A quotient below a number plus one is at most the number.
 pub quotient_le : (a u w : ℕ) → a < (u + 1) * w → a / w ≤ u
 quotient_le a u zero h = absurd (omega arith)
 quotient_le a u (suc w) h =
     let lt : a / suc w < u + 1 = (div-lt_iff_lt-mul {k = suc w} {x = a} {y = u + 1} (omega arith)).1 h in
     omega arith
 
+-- A segment that is worth less than 0 above some units brings at most these.
 pub segment_below : (p : ProblemData) (g : SegmentData) (u : ℕ) (node : List Mark) (y : List Bool) → Completes node y
     → greatest_worth p node (prices_above p g u) <ℤ pos 0 → g.size * p.unit * gain_of p g y / weight_of p g y ≤ u
 segment_below p g u node y c h =
@@ -58,6 +60,7 @@ segment_below p g u node y c h =
     let lt : g.size * p.unit * gain_of p g y < (u + 1) * weight_of p g y = omega (arith, ints) in
     quotient_le (g.size * p.unit * gain_of p g y) u (weight_of p g y) lt
 
+-- And all segments bring at most their sum.
 pub segments_below : (p : ProblemData) (node : List Mark) (y : List Bool) (us : List ℕ) → Completes node y → SegmentsFit p node us → value_of p y ≤ segments_bound us
 segments_below p node y us c h = rw (← h.each) (sum_le (length us) (λ k. segment_value p (segment_at p k) y) (λ k. slice_index us k)
     (λ k l. segment_below p (segment_at p k) (slice_index us k) node y c (h.below k l)))

@@ -1,3 +1,4 @@
+-- Lists with reserved room, as contracts see them.
 use Rattle.std.specs.Prelude.{ℕ, List}
 
 -- The items of a list, and the room for further ones. Own.

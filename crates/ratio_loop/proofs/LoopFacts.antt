@@ -7,7 +7,8 @@ use Rattle.offer_model.specs.Problems.{ProblemData, product_count}
 use Rattle.offer_model.specs.Ranges.{gain_bound, weight_bound}
 use Rattle.offer_model.specs.Limits.{IsFeasible}
 use Rattle.offer_model.specs.Nodes.{mark_at, Completes}
-use Rattle.ratio_loop.specs.Earnings.{own_gain, own_weight, Earns}
+use Rattle.offer_model.specs.Revenue.{own_gain, own_weight}
+use Rattle.ratio_loop.specs.Earnings.{Earns}
 use Rattle.ratio_loop.specs.Trials.{most_trials}
 use Rattle.ratio_loop.specs.Ties.{IsCompletionAt}
 

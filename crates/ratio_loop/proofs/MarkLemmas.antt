@@ -12,12 +12,13 @@ use Rattle.offer_model.specs.Limits.{IsFeasible}
 use Rattle.offer_model.specs.Nodes.{mark_at, Completes, open_node}
 use Rattle.offer_model.specs.Best.{IsBest}
 use Rattle.offer_model.proofs.CompletionLemmas.{Completes-set, Completes-open}
-use Rattle.ratio_loop.specs.Earnings.{own_gain, own_weight, revenue_of, Earns, IsGreatestRevenue}
+use Rattle.offer_model.specs.Revenue.{own_gain, own_weight, revenue_of}
+use Rattle.ratio_loop.specs.Earnings.{Earns, IsGreatestRevenue}
 use Rattle.ratio_loop.specs.Trials.{EarnsMost}
 use Rattle.ratio_loop.specs.Ties.{IsCompletionAt}
 use Rattle.ratio_loop.proofs.LoopFacts.{ComesAfter, Leads}
-use Rattle.ratio_loop.proofs.SizeLemmas.{own_weight-positive}
-use Rattle.ratio_loop.proofs.TrialLemmas.{by_ratio, from_ratio, EarnsMost-greatest}
+use Rattle.offer_model.proofs.EarningLemmas.{own_weight-positive, ratio_from_earns, earns_from_ratio}
+use Rattle.ratio_loop.proofs.TrialLemmas.{EarnsMost-greatest}
 
 -- What comes after still does where an Open product is marked.
 ComesAfter-set : (node : List Mark) (y : List Bool) (i : ℕ) (m : Mark) → mark_at node i ≡ Open → ComesAfter node y → ComesAfter (set node i m) y
@@ -188,10 +189,10 @@ IsBest-leads p at i node top x valid model most is all lead = record {
   feasible = lead.own.feasible;
   most = λ y f more.
       let no_more = earns_no_more at.num at.den (own_gain p y) (own_weight p y) (own_gain p x) (own_weight p x) some lead.own.earns (greatest y f) in
-      let above = by_ratio p.model p y x model more in
+      let above = ratio_from_earns p.model p y x model more in
       omega arith;
   first = λ y f other no_more.
-      let no_less = flip _ _ (λ l. no_more (from_ratio p.model p x y model l)) in
+      let no_less = flip _ _ (λ l. no_more (earns_from_ratio p.model p x y model l)) in
       let high = no_lower at.num at.den (own_gain p y) (own_weight p y) (own_gain p x) (own_weight p x) (own_weight-positive p x valid model) lead.own.earns no_less in
       let low = greatest y f in
       pick y other (lead.others y f (omega arith));

@@ -6,8 +6,7 @@ use Rattle.offer_model.specs.declared.products.Limit.TheVariants.{Total, Categor
 use Rattle.offer_model.specs.Assortments.{offers, sum_below}
 use Rattle.offer_model.specs.Problems.{ProblemData, product_count, product_at, margin_of, attraction_of, first_segment}
 use Rattle.offer_model.specs.Limits.{Meets, IsFeasible}
-use Rattle.offer_model.specs.Revenue.{sum_offered}
-use Rattle.ratio_loop.specs.Earnings.{own_gain}
+use Rattle.offer_model.specs.Revenue.{sum_offered, own_gain}
 
 -- The assortment of p's products that offers nothing.
 abbrev pub nothing : ProblemData → List Bool
@@ -25,6 +24,7 @@ sum_none (suc n) y f h = let before = sum_none n y f h in let here = h n in rw (
 sum_offered-nothing : (p : ProblemData) (f : ℕ → ℕ) → sum_offered p (nothing p) f ≡ 0
 sum_offered-nothing p f = sum_none (product_count p) (offers (nothing p)) f (offers_none (product_count p))
 
+-- What offers nothing gains nothing.
 pub own_gain-nothing : (p : ProblemData) → own_gain p (nothing p) ≡ 0
 own_gain-nothing p = sum_offered-nothing p (λ i. margin_of p i * attraction_of (first_segment p) i)
 
@@ -42,5 +42,6 @@ meets_each p (Requires a b) = λ h. absurd (none_offered p a h)
 meets_each p (Shelf space) = at_most p (λ i. (product_at p i).space) space
 meets_each p (Ladder l) = λ i j li lj d oi oj ki kj. absurd (none_offered p i oi)
 
+-- What offers nothing keeps to all limits.
 pub IsFeasible-nothing : (p : ProblemData) → IsFeasible p (nothing p)
 IsFeasible-nothing p = (length-replicate (product_count p) false, λ k d l. meets_each p _)

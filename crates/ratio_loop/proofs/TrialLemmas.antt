@@ -4,12 +4,10 @@ use Rattle.std.proofs.lemmas.Int.{ints}
 use Rattle.std.proofs.Math.Nat.{mul-le-mul, mul-le-mul_left}
 use Rattle.offer_model.specs.declared.node.Mark.{Mark}
 use Rattle.offer_model.specs.declared.products.Fraction.{Fraction}
-use Rattle.offer_model.specs.declared.products.ModelName.{ModelName}
-use Rattle.offer_model.specs.declared.products.ModelName.TheVariants.{Logit, Attract, Mixed, Chain}
 use Rattle.offer_model.specs.Problems.{ProblemData, product_count}
 use Rattle.offer_model.specs.Ranges.{gain_bound, weight_bound}
 use Rattle.offer_model.specs.Validity.{IsProblem, IsRatioModel}
-use Rattle.offer_model.specs.Revenue.{EarnsMoreUnder, EarnsMoreByRatio}
+use Rattle.offer_model.specs.Revenue.{own_gain, own_weight, revenue_of}
 use Rattle.offer_model.specs.Limits.{IsFeasible}
 use Rattle.offer_model.specs.Nodes.{Completes, open_node}
 use Rattle.offer_model.specs.Prices.{worth_of}
@@ -17,12 +15,12 @@ use Rattle.offer_model.proofs.WorthLemmas.{worth_is}
 use Rattle.offer_model.proofs.CompletionLemmas.{Completes-open}
 use Rattle.linear_step.specs.Weights.{WeightsData, prices_of, AreAt}
 use Rattle.linear_step.specs.Answers.{IsGreatest, HasNone}
-use Rattle.ratio_loop.specs.Earnings.{own_gain, own_weight, revenue_of, IsSame, Earns, IsGreatestRevenue}
+use Rattle.ratio_loop.specs.Earnings.{IsSame, Earns, IsGreatestRevenue}
 use Rattle.ratio_loop.specs.Trials.{EarnsMost}
 use Rattle.ratio_loop.specs.Ties.{IsCompletionAt}
 use Rattle.ratio_loop.proofs.LoopFacts.{IsReached}
 use Rattle.ratio_loop.proofs.NumberLemmas.{next_weighs, to_a_fourth, falls, few}
-use Rattle.ratio_loop.proofs.SizeLemmas.{own_gain-small, own_weight-small, own_weight-positive}
+use Rattle.offer_model.proofs.EarningLemmas.{own_gain-small, own_weight-small, own_weight-positive, ratio_from_earns, earns_from_ratio}
 use Rattle.ratio_loop.proofs.NothingLemmas.{nothing, own_gain-nothing, IsFeasible-nothing}
 
 -- At this revenue y weighs no more than x.
@@ -106,30 +104,17 @@ IsReached-next p x z k valid model reached feasible most other = by_weight (own_
 
 -- ---- The last trial.
 
--- Under a ratio model the greater ratio earns more.
-pub by_ratio : (m : ModelName) (p : ProblemData) (x y : List Bool) → IsRatioModel m → EarnsMoreUnder m p x y → EarnsMoreByRatio p x y
-by_ratio Logit p x y model more = more
-by_ratio Attract p x y model more = more
-by_ratio Mixed p x y model more = absurd model
-by_ratio Chain p x y model more = absurd model
-
-pub from_ratio : (m : ModelName) (p : ProblemData) (x y : List Bool) → IsRatioModel m → EarnsMoreByRatio p x y → EarnsMoreUnder m p x y
-from_ratio Logit p x y model more = more
-from_ratio Attract p x y model more = more
-from_ratio Mixed p x y model more = absurd model
-from_ratio Chain p x y model more = absurd model
-
 -- A trial that finds the same revenue: nothing earns more.
 EarnsMost-end : (p : ProblemData) (x z : List Bool) (k : ℕ) → IsRatioModel p.model → IsReached p x k
     → ((y : List Bool) → IsFeasible p y → WeighsNoMore p (revenue_of p x) y z) → Earns p z (revenue_of p x) → EarnsMost p x
 EarnsMost-end p x z k model reached most same = record {
   feasible = reached.feasible;
-  most = λ y feasible more. let top = most y feasible in let above = by_ratio p.model p y x model more in omega arith;
+  most = λ y feasible more. let top = most y feasible in let above = ratio_from_earns p.model p y x model more in omega arith;
 }
 
 -- What earns most has the greatest revenue.
 pub EarnsMost-greatest : (p : ProblemData) (x : List Bool) → IsRatioModel p.model → EarnsMost p x → IsGreatestRevenue p (revenue_of p x)
-EarnsMost-greatest p x model most y feasible = not_above _ _ (λ above. most.most y feasible (from_ratio p.model p y x model above))
+EarnsMost-greatest p x model most y feasible = not_above _ _ (λ above. most.most y feasible (earns_from_ratio p.model p y x model above))
   where
     not_above : (a b : ℕ) → (b < a → ⊥) → a ≤ b
     not_above a b h = omega arith
@@ -146,6 +131,7 @@ none_earns p at reached w node x y same bound greatest found other own =
 
 -- ---- The loop, over what its code holds.
 
+-- The empty assortment begins the trials.
 pub trials_begin : (p : ProblemData) (x : List Bool) (s : ℕ) → IsProblem p → IsRatioModel p.model → x ≡ nothing p → IsReached p x (s - s)
 trials_begin p x s valid model is =
     let none : 0 ≡ s - s = omega arith in
@@ -164,6 +150,7 @@ earns_at : (p : ProblemData) (at reached : Fraction) (x z : List Bool) → at �
     → IsSame reached at ↔ Earns p z (revenue_of p x)
 earns_at p at reached x z own found = rw (own, found) (λ h. h, λ h. h)
 
+-- What a trial found leads on.
 pub trials_go_on : (p : ProblemData) (at reached : Fraction) (w : WeightsData) (root : List Mark) (x z : List Bool) (first s s' : ℕ) → IsProblem p
     → IsRatioModel p.model → first ≤ s → s' ≡ s + 1 → IsReached p x (s - first) → IsTrialAt p at w root x z → reached ≡ revenue_of p z
     → (IsSame reached at → ⊥) → IsReached p z (s' - first)
@@ -172,6 +159,7 @@ trials_go_on p at reached w root x z first s s' valid model more one r trial fou
     subst (IsReached p z) count (IsReached-next p x z (s - first) valid model r trial.3.feasible (trial_most p at w root x z trial)
     (λ same. other ((earns_at p at reached x z trial.0 found).1 same)))
 
+-- Where the revenue is the same, the trials end.
 pub trials_end : (p : ProblemData) (at reached : Fraction) (w : WeightsData) (root : List Mark) (x z : List Bool) (k : ℕ) → IsRatioModel p.model
     → IsReached p x k → IsTrialAt p at w root x z → reached ≡ revenue_of p z → IsSame reached at → EarnsMost p x
 trials_end p at reached w root x z k model r trial found same =

@@ -1,26 +1,10 @@
 -- Revenues as fractions, under a model with one segment. Own; after Gallego and Topaloglu (2019), logit and generalised
 -- attraction.
-use Rattle.std.specs.Prelude.{◌≡◌, ℕ, ◌*◌, ◌<◌, ◌≤◌, Bool, List}
+use Rattle.std.specs.Prelude.{◌≡◌, ◌*◌, ◌≤◌, Bool, List}
 use Rattle.offer_model.specs.declared.products.Fraction.{Fraction}
-use Rattle.offer_model.specs.Problems.{ProblemData, first_segment}
-use Rattle.offer_model.specs.Ranges.{gain_bound, weight_bound}
-use Rattle.offer_model.specs.Revenue.{gain_of, weight_of}
+use Rattle.offer_model.specs.Problems.{ProblemData}
+use Rattle.offer_model.specs.Revenue.{own_gain, own_weight, revenue_of}
 use Rattle.offer_model.specs.Limits.{IsFeasible}
-
--- Gain and weight in the only segment.
-abbrev pub own_gain : ProblemData → List Bool → ℕ
-own_gain p x = gain_of p (first_segment p) x
-
-abbrev pub own_weight : ProblemData → List Bool → ℕ
-own_weight p x = weight_of p (first_segment p) x
-
--- What the assortment earns: gain over weight.
-abbrev pub revenue_of : ProblemData → List Bool → Fraction
-revenue_of p x = record { num = own_gain p x; den = own_weight p x }
-
--- A numerator and a denominator as gains and weights have them.
-abbrev pub IsInBounds : Fraction → Type 0
-IsInBounds at = (at.num < gain_bound) × (0 < at.den) × (at.den < weight_bound)
 
 -- Equal as numbers.
 abbrev pub IsSame : Fraction → Fraction → Type 0

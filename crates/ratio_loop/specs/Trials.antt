@@ -1,10 +1,9 @@
 -- What the trials come to. Own.
 use Rattle.std.specs.Prelude.{ℕ, Bool, List}
 use Rattle.offer_model.specs.Problems.{ProblemData}
-use Rattle.offer_model.specs.Revenue.{EarnsMore}
+use Rattle.offer_model.specs.Revenue.{own_gain, own_weight, EarnsMore}
 use Rattle.offer_model.specs.Limits.{IsFeasible}
 use Rattle.linear_step.specs.Weights.{WeightsData, AreWeights, AreAt}
-use Rattle.ratio_loop.specs.Earnings.{own_gain, own_weight}
 
 -- There are at most so many trials. What a trial's assortment weighs there, times its weight of choices and over the
 -- trial's denominator, is at most gain_bound times weight_bound at first, falls to a fourth or less from trial to trial,

@@ -1,3 +1,4 @@
+//! The trials, and then the tie pass.
 ghost use Rattle.std.specs.Prelude.{◌+◌, ◌≤◌, ◌↔◌, IfOk};
 ghost use Rattle.offer_model.specs.Problems.{ProblemData, product_count};
 ghost use Rattle.offer_model.specs.Validity.{IsRatioModel};

@@ -3,8 +3,6 @@
 
 mod best;
 mod earnings;
-#[cfg(test)]
-mod tests;
 mod ties;
 mod trials;
 

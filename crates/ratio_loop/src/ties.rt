@@ -1,16 +1,18 @@
+//! The tie pass: of assortments that earn as much, the one that is before the others.
 ghost use Rattle.std.specs.Prelude.{◌≡◌, ◌+◌, ◌≤◌, ◌↔◌, length, IfOk};
 ghost use Rattle.offer_model.specs.Problems.{ProblemData, product_count};
+ghost use Rattle.offer_model.specs.Ranges.{IsInBounds};
 ghost use Rattle.offer_model.specs.Validity.{IsRatioModel};
 ghost use Rattle.offer_model.specs.Nodes.{open_node};
 ghost use Rattle.offer_model.specs.Best.{IsBest};
 ghost use Rattle.linear_step.specs.Weights.{AreWeights, AreAt};
-ghost use Rattle.ratio_loop.specs.Earnings.{IsInBounds, IsGreatestRevenue};
+ghost use Rattle.ratio_loop.specs.Earnings.{IsGreatestRevenue};
 ghost use Rattle.ratio_loop.specs.Trials.{EarnsMost, AreAtOwn};
 ghost use Rattle.ratio_loop.specs.Ties.{AnswersAt};
 
-use crate::earnings::{is_same, revenue};
+use crate::earnings::is_same;
 use linear_step::{Step, Steps, Weights};
-use offer_model::{Assortment, Fraction, Mark, NoMemory, Node, Problem};
+use offer_model::{Assortment, Fraction, Mark, NoMemory, Node, Problem, revenue};
 use std::sync::ledger::Ledger;
 
 /// A feasible completion that earns the greatest revenue, if there is one. The weights are those at the revenue.
@@ -26,9 +28,13 @@ fn completion_at<L: Ledger, T: Step<L>>(
     requires fits { T.fits step.old p.now }
     requires greatest { IsGreatestRevenue p.now at }
     requires bounds { IsInBounds at }
+
+    // The weights are those at this revenue, for a node of the problem.
     requires weights { AreWeights p.now weights.now }
     requires at { AreAt p.now at.num at.den weights.now }
     requires node { length node.now ≡ product_count p.now }
+
+    // A step, and what it found where that earns the revenue.
     ensures fits { (q : ProblemData) → T.fits step.old q ↔ T.fits step.new q }
     ensures count { steps.new ≡ steps.old + 1 }
     ensures answer { IfOk result (AnswersAt p.now at node.now) }

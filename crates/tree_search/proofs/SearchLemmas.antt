@@ -18,6 +18,7 @@ relaxed_at : (p : ProblemData) (w : WeightsData) (lists : List WeightsData) (k :
     → Relaxes p (prices_of w) (list_at lists k)
 relaxed_at p w lists k r l = All-get_or (Relaxes p (prices_of w)) lists k (record { items = []; constant = pos 0; room = 0 }) l r
 
+-- Lists of relaxed prices bound.
 pub relaxed_bound : (p : ProblemData) (w : WeightsData) (lists : List WeightsData) → AreWeights p w → length lists ≡ 9
     → All (Relaxes p (prices_of w)) lists → AreBounds p w lists
 relaxed_bound p w lists fit nine r = record {
@@ -32,6 +33,7 @@ relaxed_bound p w lists fit nine r = record {
 
 -- ---- A greatest one answers the step.
 
+-- What is greatest of the goal is an answer of the step.
 pub greatest_answers : (p : ProblemData) (w : WeightsData) (root : List Mark) (lists : List WeightsData) (order : List Ranked) (o : Option (List Bool))
     → IsGreatestOf (weights_rules p (prices_of w) root lists order) o → Answers p (prices_of w) root o
 greatest_answers p w root lists order (Some x) t = record {
@@ -41,6 +43,7 @@ greatest_answers p w root lists order (Some x) t = record {
 }
 greatest_answers p w root lists order None t = λ y f c. t y (f.0, (f, c))
 
+-- So is what the search found.
 pub found_answers : {E : Type 0} (p : ProblemData) (w : WeightsData) (root : List Mark) (lists : List WeightsData) (order : List Ranked) (r : Result (Option (List Bool)) E)
     → IfOk r (IsGreatestOf (weights_rules p (prices_of w) root lists order)) → IfOk r (Answers p (prices_of w) root)
 found_answers p w root lists order (Ok o) t = greatest_answers p w root lists order o t

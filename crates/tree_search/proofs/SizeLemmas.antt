@@ -31,10 +31,12 @@ settled (k ∷ node) (suc i) m o z = let r = settled node i m o z in omega arith
 
 -- ---- Room.
 
+-- A stack with room has at most one node more than there are products.
 pub rooms_length : (n : ℕ) (stack : List (List Mark)) → Rooms n stack → length stack ≤ n + 1
 rooms_length n [] h = omega arith
 rooms_length n (node ∷ rest) h = let l = h.0 in omega arith
 
+-- A node that is divided leaves room.
 pub rooms_divided : (n : ℕ) (node : List Mark) (rest : List (List Mark)) (i : ℕ) → mark_at node i ≡ Open → Rooms n (node ∷ rest)
     → Rooms n (set node i In ∷ set node i Out ∷ rest)
 rooms_divided n node rest i o h =

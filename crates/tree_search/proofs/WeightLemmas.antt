@@ -11,6 +11,7 @@ use Rattle.offer_model.specs.Prices.{int_sum_below}
 use Rattle.linear_weights.specs.Weights.{IsWithin, WeightsData}
 use Rattle.tree_search.specs.WeightGoals.{greatest_at, least_greatest}
 
+-- What agrees with a mark agrees with an equal one.
 pub agrees_at : (m k : Mark) (a b : Bool) → m ≡ k → a ≡ b → Agrees k b → Agrees m a
 agrees_at m k a b e h f = rw (e, h) f
 

@@ -1,3 +1,4 @@
+//! Searches of toy goals, counted and compared.
 ghost use Rattle.std.specs.Prelude.{◌≡◌, [], length};
 ghost use Rattle.tree_search.specs.WorkedGoals.{offered_of, left_of, one_unless_out};
 

@@ -1,4 +1,4 @@
-use Rattle.std.proofs.Common.{◌≡◌, ◌≢◌, IsTrue, ◌↔◌, refl, sym, subst, arith}
+use Rattle.std.proofs.Common.{◌≢◌, IsTrue, ◌↔◌, refl, sym, subst, arith}
 use Rattle.offer_model.specs.Assortments.{offers}
 use Rattle.offer_model.specs.Nodes.{fill_of, ComesAfter}
 use Rattle.limit_rules.proofs.OrderLemmas.{ComesAfter-by_product, ComesAfter-from_alike}

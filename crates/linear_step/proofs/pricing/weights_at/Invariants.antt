@@ -1,5 +1,4 @@
-use Rattle.std.proofs.Common.{◌≡◌, ℕ, ◌<◌, ◌≤◌, length}
-use Rattle.offer_model.specs.Problems.{product_count}
+use Rattle.std.proofs.Common.{◌≡◌, ℕ, ◌<◌, length}
 use Rattle.offer_model.specs.Prices.{prices_at}
 use Rattle.linear_weights.specs.Weights.{weight_at, price_bound, constant_bound, IsWithin}
 use Rattle.linear_step.proofs.pricing.weights_at.Given as goal

@@ -1,7 +1,8 @@
 use Rattle.std.proofs.Common.{◌≡◌, ◌-◌, ◌≤◌}
 use Rattle.std.specs.Prelude.{◌↔◌}
 use Rattle.offer_model.specs.Problems.{ProblemData, product_count}
-use Rattle.ratio_loop.specs.Earnings.{revenue_of, IsInBounds}
+use Rattle.offer_model.specs.Ranges.{IsInBounds}
+use Rattle.offer_model.specs.Revenue.{revenue_of}
 use Rattle.ratio_loop.specs.Trials.{most_trials}
 use Rattle.ratio_loop.proofs.LoopFacts.{IsReached}
 use Rattle.ratio_loop.proofs.trials.earning_most.Given as goal
