@@ -1,8 +1,6 @@
 -- Which product is the first ranked one that is Open, and which the first that a limit forces.
-use Rattle.std.proofs.Common.{◌≡◌, ◌≢◌, ℕ, zero, suc, ◌<◌, true, false, Some, None, List, [], ◌∷◌, length, get_or, refl, ap, arith}
-use Rattle.std.specs.Prelude.{option_map}
+use Rattle.std.proofs.Common.{◌≡◌, ℕ, zero, suc, ◌<◌, true, false, Some, None, List, [], ◌∷◌, length, get_or, refl, arith}
 use Rattle.offer_model.specs.declared.node.Mark.{Mark}
-use Rattle.offer_model.specs.declared.node.Mark.TheVariants.{Open, In, Out}
 use Rattle.offer_model.specs.declared.products.Limit.{Limit}
 use Rattle.offer_model.specs.Nodes.{mark_at, is_open}
 use Rattle.tree_search.specs.declared.branch_order.Ranked.{Ranked}

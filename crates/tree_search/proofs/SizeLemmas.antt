@@ -4,7 +4,6 @@ use Rattle.std.specs.Prelude.{ℤ}
 use Rattle.offer_model.specs.declared.node.Mark.{Mark}
 use Rattle.offer_model.specs.declared.node.Mark.TheVariants.{Open, In, Out}
 use Rattle.offer_model.specs.Nodes.{mark_at, one_if_open, opens}
-use Rattle.offer_model.proofs.NodeLemmas.{open_inside, opens-le_length}
 use Rattle.tree_search.specs.Goals.{Rules, IsLawful, IsOpenOf}
 use Rattle.tree_search.specs.Turns.{Walk, IsOutcome, IsTaken, Turn, IsSound}
 use Rattle.tree_search.specs.Rooms.{Rooms}

@@ -1,14 +1,11 @@
 -- Lemmas on the goal of weights: completions mark by mark, the least bound list by list.
-use Rattle.std.proofs.Common.{◌≡◌, ℕ, zero, suc, ◌+◌, ◌-◌, ◌*◌, ◌^◌, ◌<◌, ◌≤◌, Bool, true, false, cond, List, ◌∙◌, ap, arith}
-use Rattle.std.specs.Prelude.{pos, ◌+ℤ◌, ◌≤ℤ◌}
+use Rattle.std.proofs.Common.{◌≡◌, ℕ, zero, suc, ◌+◌, ◌-◌, ◌≤◌, Bool, List, ◌∙◌, ap, arith}
 use Rattle.std.specs.Int.{int_min}
 use lib.IntN.{ℤ}
-use Rattle.std.proofs.lemmas.Int.{ints}
 use Rattle.offer_model.specs.declared.node.Mark.{Mark}
 use Rattle.offer_model.specs.Nodes.{Agrees}
 use Rattle.offer_model.specs.Problems.{ProblemData}
-use Rattle.offer_model.specs.Prices.{int_sum_below}
-use Rattle.linear_weights.specs.Weights.{IsWithin, WeightsData}
+use Rattle.linear_weights.specs.Weights.{WeightsData}
 use Rattle.tree_search.specs.WeightGoals.{greatest_at, least_greatest}
 
 -- What agrees with a mark agrees with an equal one.

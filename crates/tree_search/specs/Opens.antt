@@ -1,5 +1,5 @@
 -- Which Open product is next. Within the crate.
-use Rattle.std.specs.Prelude.{◌≡◌, ℕ, Bool, true, false, if◌then◌else◌, Option, Some, None, option_map, List, [], ◌∷◌}
+use Rattle.std.specs.Prelude.{◌≡◌, ℕ, true, false, if◌then◌else◌, Option, Some, None, option_map, List, [], ◌∷◌}
 use Rattle.std.specs.Option.{option_or}
 use Rattle.std.proofs.Common.{suc, zero, refl}
 use Rattle.offer_model.specs.declared.node.Mark.{Mark}
