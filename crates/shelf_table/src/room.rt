@@ -41,6 +41,7 @@ pub fn room_left(spaces: &[usize], shelf: usize, node: &Node) -> Option<usize>
 pub fn first_open(node: &Node) -> usize
     ensures inside { result ≤ length node.now }
     ensures settled { (i : ℕ) → i < result → mark_at node.now i ≢ Open }
+    ensures is_open { result < length node.now → mark_at node.now result ≡ Open }
 {
     for i in 0..node.len() {
         if node.mark(i) == Mark::Open {
