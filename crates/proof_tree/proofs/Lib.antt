@@ -1,0 +1,9 @@
+pub mod FeedingLemmas
+pub mod PathLemmas
+pub mod TreeLemmas
+pub mod TextLemmas
+pub mod LineLeafLemmas
+pub mod PutLemmas
+pub mod LinesLemmas
+pub mod RuleLemmas
+pub mod SearchLemmas

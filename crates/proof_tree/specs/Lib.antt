@@ -1,0 +1,10 @@
+pub mod Feeding
+pub mod Paths
+pub mod Trees
+pub mod Stages
+pub mod Either
+pub mod LineLeaves
+pub mod Puts
+pub mod Pens
+pub mod Rules
+pub mod SearchRules
