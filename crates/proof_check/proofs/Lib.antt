@@ -1,11 +1,8 @@
-pub mod PathLemmas
 pub mod ListLemmas
 pub mod LadderListLemmas
 pub mod LadderLemmas
 pub mod SpaceLemmas
 pub mod KeptLemmas
 pub mod LeafLemmas
-pub mod LeadLemmas
-pub mod FeedingLemmas
-pub mod ShortLemmas
-pub mod WorkedLemmas
+pub mod HeaderLemmas
+pub mod AcceptedLemmas

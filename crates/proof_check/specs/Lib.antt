@@ -1,9 +1,7 @@
-pub mod Paths
+pub mod Waiting
+pub mod Headers
+pub mod Judging
 pub mod Potentials
 pub mod LadderLists
 pub mod Shelves
 pub mod Leaves
-pub mod Waiting
-pub mod Stages
-pub mod Rooms
-pub mod WorkedProblems

@@ -1,68 +1,50 @@
 -- What a checker waits for, and which texts it takes. Own.
-use Rattle.std.specs.Prelude.{◌≡◌, ℕ, ◌⊎◌, ◌↔◌, Bool, List, [], ◌∷◌, ◌++◌, slice_set}
-use Rattle.offer_model.specs.declared.node.Mark.{Mark}
-use Rattle.offer_model.specs.declared.node.Mark.TheVariants.{In, Out, Open}
+use Rattle.std.specs.Prelude.{◌≡◌, ℕ, Bool, List, [], ◌∷◌}
 use Rattle.offer_model.specs.Problems.{ProblemData, product_count}
 use Rattle.offer_model.specs.Limits.{IsFeasible}
-use Rattle.offer_model.specs.Nodes.{mark_at, open_node}
+use Rattle.offer_model.specs.Nodes.{open_node}
 use Rattle.proof_lines.specs.declared.line.Shape.TheVariants as S
-use Rattle.proof_lines.specs.Lines.{LineData, line, AreLines, text_of}
-use Rattle.proof_lines.specs.Closing.{Closes}
+use Rattle.proof_lines.specs.Lines.{line_text}
 use Rattle.proof_lines.specs.Acceptance.{digits_of, value_numbers}
+use Rattle.proof_tree.specs.Feeding.{FeederData, TakesBy}
+use Rattle.proof_tree.specs.LineLeaves.{LeafCloses}
+use Rattle.proof_tree.specs.Trees.{Spells, TreePhase, TreeWaits}
+use Rattle.proof_tree.specs.Trees.TreePhase.{in_trees}
 
--- What has been read: nothing, the first line, the model, the assortment, or the value with the nodes whose trees are
--- still to come; all of it; or what no accepted text begins with.
-pub data Phase : Type 0 where
-  at_start : Phase
-  at_model : Phase
-  at_set : Phase
-  at_value : List Bool → Phase
-  in_tree : List Bool → List (List Mark) → Phase
-  at_end : Phase
-  refused : Phase
+-- What comes next of the header: the first line, the model, the assortment, or its value; after it the tree; or nothing that
+-- could be accepted.
+pub data HeadPhase : Type 0 where
+  at_start : HeadPhase
+  at_model : HeadPhase
+  at_set : HeadPhase
+  at_value : List Bool → HeadPhase
+  at_tree : List Bool → HeadPhase
+  refused : HeadPhase
 
--- The lines are those of trees that close these nodes, one after the other, and the end.
-abbrev pub TreesTake : ProblemData → List Bool → List (List Mark) → List LineData → Type 0
-TreesTake p x [] [] = ⊥
-TreesTake p x (node ∷ nodes) [] = ⊥
-TreesTake p x [] (l ∷ ls) = (l ≡ line S.End []) × (ls ≡ [])
-TreesTake p x (node ∷ nodes) (l ∷ ls) =
-    ((i : ℕ) × (l ≡ line S.Branch (i ∷ [])) × (mark_at node i ≡ Open)
-    × TreesTake p x (slice_set node i In ∷ slice_set node i Out ∷ nodes) ls)
-    ⊎ (Closes p x node l.shape l.numbers × TreesTake p x nodes ls)
+-- The lines are those of the header that are still to come, and then what is still to come of the tree.
+abbrev pub Waits : ProblemData → HeadPhase → TreePhase → List (List ℕ) → Type 0
+Waits p refused tree ls = ⊥
+Waits p (at_tree x) tree ls = TreeWaits (LeafCloses p x) tree ls
+Waits p (at_value x) tree [] = ⊥
+Waits p (at_value x) tree (l ∷ ls) = Spells S.Value (value_numbers p x) l × Waits p (at_tree x) tree ls
+Waits p at_set tree [] = ⊥
+Waits p at_set tree (l ∷ ls) = (x : List Bool) × Spells S.Set (digits_of x) l × IsFeasible p x × Waits p (at_value x) tree ls
+Waits p at_model tree [] = ⊥
+Waits p at_model tree (l ∷ ls) = (l ≡ line_text (S.Model p.model) []) × Waits p at_set tree ls
+Waits p at_start tree [] = ⊥
+Waits p at_start tree (l ∷ ls) = (l ≡ line_text S.Start []) × Waits p at_model tree ls
 
--- The lines are what the phase still waits for.
-abbrev pub PhaseTakes : ProblemData → Phase → List LineData → Type 0
-PhaseTakes p refused ls = ⊥
-PhaseTakes p at_end ls = ls ≡ []
-PhaseTakes p (in_tree x nodes) ls = TreesTake p x nodes ls
-PhaseTakes p (at_value x) [] = ⊥
-PhaseTakes p (at_value x) (l ∷ ls) = (l ≡ line S.Value (value_numbers p x)) × TreesTake p x (open_node (product_count p) ∷ []) ls
-PhaseTakes p at_set [] = ⊥
-PhaseTakes p at_set (l ∷ ls) = (x : List Bool) × (l ≡ line S.Set (digits_of x)) × IsFeasible p x × PhaseTakes p (at_value x) ls
-PhaseTakes p at_model [] = ⊥
-PhaseTakes p at_model (l ∷ ls) = (l ≡ line (S.Model p.model) []) × PhaseTakes p at_set ls
-PhaseTakes p at_start [] = ⊥
-PhaseTakes p at_start (l ∷ ls) = (l ≡ line S.Start []) × PhaseTakes p at_model ls
+-- The whole tree is to come.
+abbrev pub whole_tree : ProblemData → TreePhase
+whole_tree p = in_trees (open_node (product_count p) ∷ [])
 
--- The line leads from one phase to the other.
-abbrev pub Leads : ProblemData → Phase → Phase → LineData → Type 0
-Leads p before after l = (ls : List LineData) → PhaseTakes p after ls ↔ PhaseTakes p before (l ∷ ls)
-
--- What contracts see of a checker: its problem, what it waits for, and the bytes of the line that has begun.
-pub record CheckerData : Type 0 where
+-- What contracts see of a reader of lines: its problem, and what is still to come of the header and of the tree.
+pub record MachineData : Type 0 where
   pub problem : ProblemData
-  pub phase : Phase
-  pub begun : List ℕ
+  pub head : HeadPhase
+  pub tree : TreePhase
 
 -- The checker accepts where r is all that is still to come: the line that has begun and r are the text of lines that it
 -- waits for.
-pub record Takes (checker : CheckerData) (r : List ℕ) : Type 0 where
-  pub lines : List LineData
-  pub grammar : AreLines lines
-  pub text : checker.begun ++ r ≡ text_of lines
-  pub waited : PhaseTakes checker.problem checker.phase lines
-
--- The byte leads from one checker to the other.
-abbrev pub LeadsBy : List ℕ → CheckerData → CheckerData → Type 0
-LeadsBy bytes before after = (r : List ℕ) → Takes after r ↔ Takes before (bytes ++ r)
+abbrev pub Takes : FeederData MachineData → List ℕ → Type 0
+Takes checker r = TakesBy (Waits checker.machine.problem checker.machine.head checker.machine.tree) checker.begun r

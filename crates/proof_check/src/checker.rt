@@ -1,17 +1,15 @@
-ghost use Rattle.std.specs.Prelude.{◌≡◌, ℕ, ◌+◌, ◌<◌, ◌↔◌, List, [], ◌∷◌, ◌++◌, IsTrue, IfOk};
+//! The checker of certificates.
+ghost use Rattle.std.specs.Prelude.{◌≡◌, ℕ, ◌≤◌, ◌↔◌, List, [], ◌++◌, IfOk, IsTrue};
+ghost use Rattle.offer_model.specs.Problems.{product_count};
 ghost use Rattle.offer_model.specs.Validity.{IsRatioModel};
 ghost use Rattle.proof_lines.specs.Acceptance.{Accepts};
-ghost use Rattle.proof_check.specs.Waiting.{Takes, LeadsBy};
-ghost use Rattle.proof_check.specs.Stages.{phase_of};
+ghost use Rattle.proof_check.specs.Waiting.{Takes};
 
-use crate::progress::Progress;
-use offer_model::{Bytes, NoMemory, Problem, Wide};
-use proof_lines::read_line;
+use crate::machine::Machine;
+use offer_model::{NoMemory, Problem};
+use proof_tree::Feeder;
 use std::alloc::Global;
 use std::marker::Model;
-
-/// The most bytes of a line that has begun. No accepted text has a longer line.
-const MOST_LINE: usize = 39_999;
 
 /// Whether a text is accepted.
 #[derive(Clone, Copy, Debug, PartialEq, Eq)]
@@ -23,21 +21,16 @@ pub enum Verdict {
 /// A checker of one text, which comes in pieces. Contracts see what it waits for (`Takes`).
 #[derive(Drop)]
 pub struct Checker {
-    progress: Progress,
-    begun: Bytes,
-    numbers: Wide,
+    feeder: Feeder<Machine>,
 }
 
 impl Model for Checker {
-    ghost use Rattle.proof_check.specs.Waiting.{CheckerData};
-    ghost use Rattle.proof_check.specs.Stages.{phase_of};
-    ghost use Rattle.proof_check.specs.Rooms.{IsChecker};
+    ghost use Rattle.proof_tree.specs.Feeding.{FeederData};
+    ghost use Rattle.proof_check.specs.Waiting.{MachineData};
 
-    ghost Value = { CheckerData };
+    ghost Value = { FeederData MachineData };
 
-    ghost view = { λ c. record { problem = c.progress.problem; phase = phase_of c.progress; begun = c.begun.items } };
-
-    ghost invariant = { λ c. IsChecker c.progress c.begun c.numbers };
+    ghost view = { λ c. c.feeder };
 }
 
 impl Checker {
@@ -46,65 +39,30 @@ impl Checker {
         requires { IsRatioModel p.now.model }
         ensures { IfOk result (λ checker. (r : List ℕ) → Takes checker r ↔ Accepts p.now r) }
     {
-        let progress = Progress::new(alloc, p)?;
-        let mut begun = Bytes::new(alloc);
-        begun.reserve(MOST_LINE)?;
-        let mut numbers = Wide::new(alloc);
-        numbers.reserve(MOST_LINE + 1)?;
-        Ok(Checker {
-            progress,
-            begun,
-            numbers,
-        })
-    }
-
-    /// Takes the line that has come whole.
-    fn take_line(&mut self)
-        ensures { LeadsBy (10 ∷ []) self.old self.new }
-    {
-        match read_line(self.begun.as_slice(), &mut self.numbers) {
-            Some(shape) => self.progress.take(shape, &self.numbers),
-            None => self.progress.refuse(),
-        }
-        self.begun.clear();
-    }
-
-    /// Takes the next byte.
-    fn take_byte(&mut self, byte: u8)
-        ensures { LeadsBy (byte ∷ []) self.old self.new }
-    {
-        if byte == b'\n' {
-            return self.take_line();
-        }
-        if self.begun.len() == MOST_LINE {
-            return self.progress.refuse();
-        }
-        self.begun.push(byte);
+        let machine = Machine::new(alloc, p)?;
+        let feeder = Feeder::new(alloc, machine)?;
+        Ok(Checker { feeder })
     }
 
     /// Takes the next piece of the text.
     pub fn feed(&mut self, piece: &[u8])
         ensures { (r : List ℕ) → Takes self.new r ↔ Takes self.old (piece.now ++ r) }
     {
-        for byte in piece {
-            self.take_byte(*byte);
-        }
+        self.feeder.feed(piece);
     }
 
-    fn is_complete(&self) -> bool
-        ensures { IsTrue result ↔ Takes self.now [] }
+    /// How many branches are open.
+    pub fn frames(&self) -> usize
+        ensures { result ≤ product_count self.now.machine.problem }
     {
-        if self.begun.len() != 0 {
-            return false;
-        }
-        self.progress.is_at_end()
+        self.feeder.machine().frames()
     }
 
     /// Whether the pieces, joined, are accepted.
     pub fn finish(self) -> Verdict
         ensures { (result ≡ Verdict.Yes) ↔ Takes self [] }
     {
-        verdict_of(self.is_complete())
+        verdict_of(self.feeder.is_complete())
     }
 }
 

@@ -1,3 +1,4 @@
+//! The leaves of a tree, by the bounds of their kinds.
 ghost use Rattle.std.specs.Prelude.{◌≡◌, ◌↔◌, [], length, IfOk, IsTrue};
 ghost use Rattle.offer_model.specs.Problems.{product_count};
 ghost use Rattle.offer_model.specs.Validity.{IsProblem, IsRatioModel};
@@ -6,7 +7,7 @@ ghost use Rattle.proof_lines.specs.Lines.{AreNumbers, IsLine};
 ghost use Rattle.proof_lines.specs.Closing.{ComesAfter, BoundCloses, Closes};
 ghost use Rattle.linear_step.specs.Weights.{prices_of, AreWeights};
 ghost use Rattle.proof_check.specs.Leaves.{HasRoom, ClosesBy};
-ghost use Rattle.proof_check.specs.Stages.{AreOwnWeights};
+ghost use Rattle.proof_check.specs.Judging.{AreOwnWeights};
 
 use crate::kept_table::{KeptTable, settled_first};
 use crate::potentials::Potentials;

@@ -2,18 +2,16 @@
 #![tactic(auto)]
 
 mod checker;
+mod claim;
 mod copy;
+mod header;
 mod kept_table;
 mod ladders;
 mod leaf;
+mod machine;
 mod numbers;
-mod path;
 mod potentials;
-mod progress;
+mod ratio_leaves;
 mod shelf;
-#[cfg(test)]
-mod tests;
-#[cfg(test)]
-mod worked;
 
 pub use checker::{Checker, Verdict};

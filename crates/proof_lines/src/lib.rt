@@ -6,8 +6,6 @@ mod line;
 mod numbers;
 mod print;
 mod read;
-#[cfg(test)]
-mod tests;
 
 pub use laws::{
     accepted_chain_lines_are_short, accepted_is_best, accepted_is_bracketed,

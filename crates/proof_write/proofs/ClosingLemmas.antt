@@ -34,7 +34,8 @@ use Rattle.proof_lines.specs.Closing.{ComesAfter, BoundCloses, own_prices, Price
 use Rattle.proof_lines.specs.Trees.{Tree}
 use Rattle.proof_lines.specs.Trees.Tree.{leaf}
 use Rattle.proof_lines.specs.Writing.{exact_leaf, IsPathLeaf}
-use Rattle.proof_write.specs.Leaves.{leaf_line, IsPrintable}
+use Rattle.proof_lines.specs.Lines.{LineData}
+use Rattle.proof_write.specs.Leaves.{leaf_line, IsPrintable, Says}
 
 -- ---- Revenue is one ratio.
 
@@ -111,7 +112,7 @@ by_model Attract p x node shape us r h = h
 by_model Mixed p x node shape us r h = absurd r
 by_model Chain p x node shape us r h = absurd r
 
-pub leaf_closes : (p : ProblemData) (x : List Bool) (node : List Mark) (closing : Closing) → IsRatioModel p.model → IsBest p x → IsBeside x node
+leaf_closes : (p : ProblemData) (x : List Bool) (node : List Mark) (closing : Closing) → IsRatioModel p.model → IsBest p x → IsBeside x node
     → StepCloses p (own_prices p x) node closing → Closes p x node (leaf_line closing).shape (leaf_line closing).numbers
 leaf_closes p x node C.Clash ratio best side h = (refl, h.clash.0 refl)
 leaf_closes p x node (C.Multipliers us) ratio best side h =
@@ -167,12 +168,13 @@ shape_is K.Shelf C.Shelf h other = refl
 shape_is K.Ladder (C.Potentials us) h other = refl
 shape_is _ _ h other = absurd h
 
-abbrev pub leaf_of : Closing → Tree
-leaf_of closing = leaf (leaf_line closing).shape (leaf_line closing).numbers
+-- The leaf of a line.
+abbrev pub leaf_of : LineData → Tree
+leaf_of l = leaf l.shape l.numbers
 
 -- The leaf is a clash exactly where the node clashes, else of the kind's shape.
-pub leaf_fits : (p : ProblemData) (at : Prices) (node : List Mark) (closing : Closing) → StepCloses p at node closing
-    → IsPathLeaf p (shape_for (kind_of p.limits)) node (leaf_of closing)
+leaf_fits : (p : ProblemData) (at : Prices) (node : List Mark) (closing : Closing) → StepCloses p at node closing
+    → IsPathLeaf p (shape_for (kind_of p.limits)) node (leaf_of (leaf_line closing))
 leaf_fits p at node C.Clash h = inl (h.clash.0 refl, refl)
 leaf_fits p at node (C.Multipliers us) h = inr ((λ c. let e = h.clash.1 c in cc), shape_is (kind_of p.limits) (C.Multipliers us) h.shape (λ e. cc))
 leaf_fits p at node C.Shelf h = inr ((λ c. let e = h.clash.1 c in cc), shape_is (kind_of p.limits) C.Shelf h.shape (λ e. cc))
@@ -180,7 +182,7 @@ leaf_fits p at node (C.Potentials us) h = inr ((λ c. let e = h.clash.1 c in cc)
 
 -- ---- The leaf can be printed.
 
-pub Closes-printable : (p : ProblemData) (at : Prices) (node : List Mark) (closing : Closing) → IsProblem p → StepCloses p at node closing → IsPrintable closing
+Closes-printable : (p : ProblemData) (at : Prices) (node : List Mark) (closing : Closing) → IsProblem p → StepCloses p at node closing → IsPrintable (leaf_line closing)
 Closes-printable p at node C.Clash valid h = record { grammar = refl; few = omega arith }
 Closes-printable p at node (C.Multipliers us) valid h = record {
   grammar = recursion_from_All _ us.items h.small;
@@ -199,3 +201,18 @@ Closes-printable p at node (C.Potentials us) valid h = record {
       let all = valid.few in
       omega arith;
 }
+
+-- ---- The same of a line that says it.
+
+-- The line's leaf closes the node.
+pub says_closes : (p : ProblemData) (x : List Bool) (node : List Mark) (l : LineData) → IsRatioModel p.model → IsBest p x → IsBeside x node
+    → Says p (own_prices p x) node l → Closes p x node l.shape l.numbers
+says_closes p x node l ratio best side h = subst (λ z. Closes p x node z.shape z.numbers) h.2 (leaf_closes p x node h.0 ratio best side h.1)
+
+-- It has the form.
+pub says_fits : (p : ProblemData) (at : Prices) (node : List Mark) (l : LineData) → Says p at node l → IsPathLeaf p (shape_for (kind_of p.limits)) node (leaf_of l)
+says_fits p at node l h = subst (λ z. IsPathLeaf p (shape_for (kind_of p.limits)) node (leaf_of z)) h.2 (leaf_fits p at node h.0 h.1)
+
+-- It can be printed.
+pub says_printable : (p : ProblemData) (at : Prices) (node : List Mark) (l : LineData) → IsProblem p → Says p at node l → IsPrintable l
+says_printable p at node l valid h = subst IsPrintable h.2 (Closes-printable p at node h.0 valid h.1)

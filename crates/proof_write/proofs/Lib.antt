@@ -1,13 +1,12 @@
+pub mod LineLemmas
 pub mod ClosingLemmas
 pub mod PathLemmas
 pub mod LeafLemmas
-pub mod LineLemmas
-pub mod WriteLemmas
+pub mod PathRuleLemmas
+pub mod WrittenLemmas
 pub mod RatioProofLemmas
 pub mod DecideLemmas
 pub mod ZeroLemmas
 pub mod SettledLemmas
-pub mod WalkLemmas
 pub mod SearchLemmas
 pub mod SearchProofLemmas
-pub mod SearchWriteLemmas

@@ -1,21 +1,23 @@
--- The path along an assortment: its nodes, its tree, and the tree's lines.
-use Rattle.std.proofs.Common.{◌≡◌, ℕ, zero, suc, ◌+◌, ◌-◌, ◌<◌, ◌≤◌, Bool, true, false, cond, ◌||◌, List, [], ◌∷◌, ◌++◌, length, refl, sym, ap, arith, not, subst, inl, inr, ◌∙◌, append_assoc}
-use Rattle.std.specs.Prelude.{slice_set, nat_lt}
+-- The path along an assortment: its nodes, and its tree.
+use Rattle.std.proofs.Common.{◌≡◌, ℕ, zero, suc, ◌+◌, ◌<◌, ◌≤◌, Bool, true, false, cond, ◌||◌, List, [], ◌∷◌, length, refl, sym, ap, arith, not, subst, inl, inr, ◌∙◌, ◌⊎◌}
+use Rattle.std.specs.Prelude.{◌≢◌, slice_set, nat_lt}
+use Rattle.std.proofs.lemmas.Bool.{cases_lt}
 use Rattle.std.proofs.lemmas.Bool.Decides.{nat_tests}
 use Rattle.std.proofs.lemmas.List.{set-set}
+use Rattle.offer_model.specs.declared.node.Mark.{Mark}
 use Rattle.offer_model.specs.declared.node.Mark.TheVariants.{In, Out, Open}
 use Rattle.offer_model.specs.Assortments.{IsBefore, offers}
 use Rattle.offer_model.specs.Nodes.{mark_at, open_node, Completes, fill_of}
 use Rattle.offer_model.proofs.TieLemmas.{IsBefore-asym}
-use Rattle.proof_lines.specs.declared.line.Shape.TheVariants as S
-use Rattle.proof_lines.specs.Lines.{LineData, line}
-use Rattle.proof_lines.specs.Trees.{Tree, tree_lines}
+use Rattle.proof_lines.specs.Lines.{LineData, line_text}
+use Rattle.proof_lines.specs.Trees.{Tree}
 use Rattle.proof_lines.specs.Trees.Tree.{branch}
 use Rattle.proof_lines.specs.Closing.{ComesAfter}
 use Rattle.proof_lines.specs.Writing.{offered_end}
-use Rattle.linear_step.specs.declared.closing.Closing.{Closing}
-use Rattle.proof_write.specs.Leaves.{mark_of, path_node, side_node, leaf_line, closing_at}
-use Rattle.proof_write.specs.PathLines.{leaf_at, step_lines, branch_lines, outside_lines, outer_lines, tree_part}
+use Rattle.proof_tree.specs.LineLeaves.{text_tree}
+use Rattle.proof_tree.specs.Rules.{IsRuleTree}
+use Rattle.proof_write.specs.Leaves.{mark_of, path_node, side_node, leaf_at}
+use Rattle.proof_write.specs.PathRules.{IsTurn, PathLeaf, PathBranch}
 use Rattle.proof_write.proofs.ClosingLemmas.{IsBeside, leaf_of}
 
 -- ---- Nodes.
@@ -128,58 +130,106 @@ last-beside x = inl (not_before_itself x (fill_of (path_node x (offered_end x)))
 -- ---- The tree.
 
 -- So many branches, on products from k on.
-abbrev pub path_tree : List Bool → List Closing → ℕ → ℕ → Tree
-path_tree x leaves zero k = leaf_of (closing_at leaves k)
-path_tree x leaves (suc more) k = branch k (cond (offers x k) (path_tree x leaves more (suc k)) (leaf_of (closing_at leaves k)))
-    (cond (offers x k) (leaf_of (closing_at leaves k)) (path_tree x leaves more (suc k)))
+abbrev pub path_tree : List Bool → List LineData → ℕ → ℕ → Tree
+path_tree x leaves zero k = leaf_of (leaf_at leaves k)
+path_tree x leaves (suc more) k = branch k (cond (offers x k) (path_tree x leaves more (suc k)) (leaf_of (leaf_at leaves k)))
+    (cond (offers x k) (leaf_of (leaf_at leaves k)) (path_tree x leaves more (suc k)))
 
--- ---- Its lines.
-
--- A branch on top of a tree whose lines are these.
-step_same : (b : Bool) (k : ℕ) (closing : Closing) (outer inner_lines after end : List LineData) (inner : Tree)
-    → tree_lines inner ((cond b (leaf_line closing ∷ []) [] ++ outer) ++ end) ≡ inner_lines ++ after
-    → line S.Branch (k ∷ []) ∷ tree_lines (cond b inner (leaf_of closing)) (tree_lines (cond b (leaf_of closing) inner) (outer ++ end))
-    ≡ ((line S.Branch (k ∷ []) ∷ cond b [] (leaf_line closing ∷ [])) ++ inner_lines) ++ after
-step_same true k closing outer inner_lines after end inner h = ap (λ t. line S.Branch (k ∷ []) ∷ t) h
-step_same false k closing outer inner_lines after end inner h = ap (λ t. line S.Branch (k ∷ []) ∷ leaf_line closing ∷ t) h
-
-lines_along : (x : List Bool) (leaves : List Closing) (more k : ℕ) (end : List LineData)
-    → tree_lines (path_tree x leaves more k) (outer_lines x leaves k ++ end)
-    ≡ branch_lines x leaves more k ++ (leaf_at leaves (k + more) ∷ (outer_lines x leaves (k + more) ++ end))
-lines_along x leaves zero k end =
-    let none : k + 0 ≡ k = omega arith in
-    rw none refl
-lines_along x leaves (suc more) k end =
-    let later : k + suc more ≡ suc k + more = omega arith in
-    rw later (step_same (offers x k) k (closing_at leaves k) (outer_lines x leaves k) (branch_lines x leaves more (suc k))
-    (leaf_at leaves (suc k + more) ∷ (outer_lines x leaves (suc k + more) ++ end)) end (path_tree x leaves more (suc k)) (lines_along x leaves more (suc k) end))
-
--- The lines of the whole tree.
-pub lines_of_tree : (x : List Bool) (leaves : List Closing) (end : List LineData)
-    → tree_lines (path_tree x leaves (offered_end x) 0) end ≡ tree_part x leaves (offered_end x) ++ end
-lines_of_tree x leaves end = by_end (offered_end x)
-  where
-    by_end : (e : ℕ) → tree_lines (path_tree x leaves e 0) end ≡ tree_part x leaves e ++ end
-    by_end e =
-        let from_zero : 0 + e ≡ e = omega arith in
-        subst (λ t. tree_lines (path_tree x leaves e 0) end ≡ branch_lines x leaves e 0 ++ (leaf_at leaves t ∷ (outer_lines x leaves t ++ end))) from_zero
-        (lines_along x leaves e 0 end)
-        ∙ sym (append_assoc (branch_lines x leaves e 0) (leaf_at leaves e ∷ outer_lines x leaves e) end)
-
+-- Nothing comes right before the first.
 pub no_end : (x : List Bool) (i : ℕ) → 0 ≡ i + 1 → offers x i ≡ true
 no_end x i e = absurd (omega arith)
 
--- ---- Lines so far, and those to come.
+-- ---- The turns of its nodes.
 
--- The first branch, and the others.
-pub branches_split : (x : List Bool) (leaves : List Closing) (end k : ℕ) → k < end
-    → branch_lines x leaves (end - k) k ≡ step_lines x leaves k ++ branch_lines x leaves (end - (k + 1)) (k + 1)
-branches_split x leaves end k l =
-    let more : end - k ≡ suc (end - (k + 1)) = omega arith in
-    let one : suc k ≡ k + 1 = omega arith in
-    rw more (ap (λ t. step_lines x leaves k ++ branch_lines x leaves (end - (k + 1)) t) one)
+-- A node has one turn.
+pub turn_one : (x : List Bool) (node : List Mark) (end j k : ℕ) → IsTurn x node end j → IsTurn x node end k → j ≡ k
+turn_one x node end j k h g = by_order (cases_lt j k) (cases_lt k j)
+  where
+    by_order : (j < k) ⊎ (k ≤ j) → (k < j) ⊎ (j ≤ k) → j ≡ k
+    by_order (inl l) b = absurd (h.off (let most = g.inside in omega arith) (g.along j l))
+    by_order (inr l) (inl m) = absurd (g.off (let most = h.inside in omega arith) (h.along k m))
+    by_order (inr l) (inr m) = omega arith
 
--- The last of these leaves comes first.
-pub outer_split : (x : List Bool) (leaves : List Closing) (k : ℕ) → 0 < k → outer_lines x leaves k ≡ outside_lines x leaves (k - 1) ++ outer_lines x leaves (k - 1)
-outer_split x leaves zero l = absurd (omega arith)
-outer_split x leaves (suc n) l = let one : suc n - 1 ≡ n = omega arith in rw one refl
+node-along : (x : List Bool) (k i : ℕ) → i < k → k ≤ length x → mark_at (path_node x k) i ≡ mark_of (offers x i)
+node-along [] k i l m = absurd (omega arith)
+node-along (b ∷ x) zero i l m = absurd (omega arith)
+node-along (b ∷ x) (suc k) zero l m = refl
+node-along (b ∷ x) (suc k) (suc i) l m = node-along x k i (omega arith) (omega arith)
+
+side-along : (x : List Bool) (k i : ℕ) (m : Mark) → i < k → k < length x → mark_at (slice_set (path_node x k) k m) i ≡ mark_of (offers x i)
+side-along [] k i m l n = absurd (omega arith)
+side-along (b ∷ x) zero i m l n = absurd (omega arith)
+side-along (b ∷ x) (suc k) zero m l n = refl
+side-along (b ∷ x) (suc k) (suc i) m l n = side-along x k i m (omega arith) (omega arith)
+
+side-mark : (x : List Bool) (k : ℕ) (m : Mark) → k < length x → mark_at (slice_set (path_node x k) k m) k ≡ m
+side-mark [] k m l = absurd (omega arith)
+side-mark (b ∷ x) zero m l = refl
+side-mark (b ∷ x) (suc k) m l = side-mark x k m (omega arith)
+
+no_open : (b : Bool) → mark_of b ≢ Open
+no_open true e = cc
+no_open false e = cc
+
+other_mark : (b : Bool) → mark_of (not b) ≢ mark_of b
+other_mark true e = cc
+other_mark false e = cc
+
+-- A node on the path turns where it is Open first.
+pub turn-along : (x : List Bool) (end k : ℕ) → k ≤ end → end ≤ length x → IsTurn x (path_node x k) end k
+turn-along x end k l m = record {
+  inside = l;
+  along = λ i b. node-along x k i b (omega arith);
+  off = λ b e. no_open (offers x k) (sym e ∙ node-mark x k (omega arith));
+}
+
+-- A node beside it turns at its own product.
+pub turn-beside : (x : List Bool) (end k : ℕ) → k < end → end ≤ length x → IsTurn x (side_node x k) end k
+turn-beside x end k l m = record {
+  inside = omega arith;
+  along = λ i b. side-along x k i (mark_of (not (offers x k))) b (omega arith);
+  off = λ b e. other_mark (offers x k) (sym (side-mark x k (mark_of (not (offers x k))) (omega arith)) ∙ e);
+}
+
+-- ---- The tree is the rule's.
+
+leaf-beside : (x : List Bool) (leaves : List LineData) (k : ℕ) → k < offered_end x
+    → PathLeaf (record { best = x; leaves = leaves }) (side_node x k) (line_text (leaf_at leaves k).shape (leaf_at leaves k).numbers)
+leaf-beside x leaves k l =
+    let inside = end-inside x in
+    (k, turn-beside x (offered_end x) k l inside, (λ b e. no_open (not (offers x k)) (sym (side-mark x k (mark_of (not (offers x k))) (omega arith)) ∙ e)), refl)
+
+-- The rule fixes the tree of so many branches from k on, at the node on the path there.
+pub path_is_rule : (x : List Bool) (leaves : List LineData) (more k : ℕ) → k + more ≡ offered_end x
+    → IsRuleTree (PathLeaf (record { best = x; leaves = leaves })) (PathBranch (record { best = x; leaves = leaves })) (path_node x k) (text_tree (path_tree x leaves more k))
+path_is_rule x leaves zero k e =
+    let inside = end-inside x in
+    (k, turn-along x (offered_end x) k (omega arith) inside, (λ b. absurd (omega arith)), refl)
+path_is_rule x leaves (suc more) k e =
+    let inside = end-inside x in
+    let turn = turn-along x (offered_end x) k (omega arith) inside in
+    let sides = by_offer (offers x k) (node-next x k (omega arith)) (path_is_rule x leaves more (suc k) (omega arith)) (leaf-beside x leaves k (omega arith)) in
+    (none turn (node-mark x k (omega arith)), turn, sides.0, sides.1)
+  where
+    L : List Mark → List ℕ → Type 0
+    L node l = PathLeaf (record { best = x; leaves = leaves }) node l
+
+    B : List Mark → ℕ → Type 0
+    B node i = PathBranch (record { best = x; leaves = leaves }) node i
+
+    here : Tree
+    here = leaf_of (leaf_at leaves k)
+
+    inner : Tree
+    inner = path_tree x leaves more (suc k)
+
+    none : IsTurn x (path_node x k) (offered_end x) k → mark_at (path_node x k) k ≡ Open → (l : List ℕ) → L (path_node x k) l → ⊥
+    none turn o l h =
+        let same = turn_one x (path_node x k) (offered_end x) h.0 k h.1 turn in
+        h.2 (omega arith) (subst (λ z. mark_at (path_node x k) z ≡ Open) (sym same) o)
+
+    by_offer : (b : Bool) → slice_set (path_node x k) k (mark_of b) ≡ path_node x (suc k) → IsRuleTree L B (path_node x (suc k)) (text_tree inner)
+        → L (slice_set (path_node x k) k (mark_of (not b))) (line_text (leaf_at leaves k).shape (leaf_at leaves k).numbers)
+        → IsRuleTree L B (slice_set (path_node x k) k In) (text_tree (cond b inner here)) × IsRuleTree L B (slice_set (path_node x k) k Out) (text_tree (cond b here inner))
+    by_offer true next deep own = (subst (λ n. IsRuleTree L B n (text_tree inner)) (sym next) deep, own)
+    by_offer false next deep own = (own, subst (λ n. IsRuleTree L B n (text_tree inner)) (sym next) deep)

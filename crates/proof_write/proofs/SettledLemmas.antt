@@ -2,7 +2,6 @@
 use Rattle.std.proofs.Common.{◌≡◌, ◌≢◌, ◌∙◌, ℕ, zero, suc, ◌<◌, ◌⊎◌, Bool, true, IsTrue, List, [], ◌∷◌, length, get_or, refl, sym, arith, subst, inl, inr}
 use Rattle.std.specs.Prelude.{Some, pos, ◌≤ℤ◌, ◌<ℤ◌}
 use Rattle.std.proofs.lemmas.List.{length-map}
-use Rattle.std.proofs.Math.Nat.{eq-or-lt_of_le}
 use lib.IntN.{ℤ}
 use Rattle.offer_model.specs.declared.node.Mark.{Mark}
 use Rattle.offer_model.specs.declared.node.Mark.TheVariants.{In, Out, Open}
@@ -15,14 +14,12 @@ use Rattle.offer_model.specs.Limits.{Meets, IsFeasible}
 use Rattle.offer_model.specs.Nodes.{mark_at, is_in, fill_of, ClashesAt, Clashes}
 use Rattle.offer_model.specs.Prices.{worth_of}
 use Rattle.offer_model.specs.Best.{IsBest}
+use Rattle.offer_model.specs.Branching.{IsFirstOpen}
 use Rattle.offer_model.proofs.TieLemmas.{IsBefore-asym}
 use Rattle.multiplier_bound.proofs.PriceLemmas.{get_or_any}
 use Rattle.proof_lines.specs.declared.line.Shape.TheVariants as S
 use Rattle.proof_lines.specs.Closing.{own_prices, BoundCloses, Closes}
-use Rattle.proof_write.specs.declared.node_line.NodeLine.{NodeLine}
-use Rattle.proof_write.specs.declared.node_line.NodeLine.TheVariants as N
-use Rattle.proof_write.specs.NodeLines.{zeros_of, IsLineAt}
-use Rattle.proof_write.specs.Walk.{IsSettledTo}
+use Rattle.proof_write.specs.ZeroRules.{zeros_of}
 use Rattle.proof_write.proofs.ClosingLemmas.{sign, low, tied, earns_by_ratio, by_ratio_earns}
 use Rattle.proof_write.proofs.DecideLemmas.{Decided, meets}
 use Rattle.proof_write.proofs.ZeroLemmas.{fill_offers, settled_bound, zeros_close}
@@ -94,24 +91,31 @@ worth_closes p x node z ratio best feasible is =
           (best.first y feasible (λ same. not_itself same before) (λ more. tied p x y (sym is ∙ e) (earns_by_ratio p.model p x y ratio more))) before,
     )
 
+-- A node in which each product is settled and that doesn't clash is closed.
 pub settled_closes : (p : ProblemData) (x : List Bool) (node : List Mark) → IsRatioModel p.model → IsBest p x → IsSettled node
     → length node ≡ product_count p → (Clashes p node → ⊥) → Closes p x node S.Multipliers (zeros_of p)
 settled_closes p x node ratio best s each free =
     (zeros_close p x node ratio).1 (worth_closes p x node _ ratio best (settled_feasible p node s each free)
     (settled_bound p node (own_prices p x) (λ i l. s i (rw each l))))
 
--- So a node that isn't closed has a product that isn't settled.
-open_inside : (p : ProblemData) (x : List Bool) (node : List Mark) (k : ℕ) → IsRatioModel p.model → IsBest p x → IsSettledTo k node
-    → length node ≡ product_count p → (Clashes p node → ⊥) → (Closes p x node S.Multipliers (zeros_of p) → ⊥) → k < length node
-open_inside p x node k ratio best s each free other = by_place (eq-or-lt_of_le s.inside)
-  where
-    by_place : (k ≡ length node) ⊎ (k < length node) → k < length node
-    by_place (inr l) = l
-    by_place (inl e) = absurd (other (settled_closes p x node ratio best (λ i l. s.settled i (rw e l)) each free))
+-- ---- A node that isn't closed has a product that isn't settled.
 
--- A branch is on a product.
-pub branch_inside : (p : ProblemData) (x : List Bool) (node : List Mark) (k : ℕ) (node_line : NodeLine) → IsRatioModel p.model → IsBest p x → IsSettledTo k node
-    → length node ≡ product_count p → IsLineAt p x node node_line → node_line ≡ N.Branch → k < length node
-branch_inside p x node k node_line ratio best s each own e =
-    let none = subst (λ t. IsLineAt p x node t) e own in
-    open_inside p x node k ratio best s each none.0 none.1
+further : (m : Mark) (node : List Mark) → m ≢ Open → ((i : ℕ) × IsFirstOpen node i) ⊎ ((i : ℕ) → i < length node → mark_at node i ≢ Open)
+    → ((i : ℕ) × IsFirstOpen (m ∷ node) i) ⊎ ((i : ℕ) → i < length (m ∷ node) → mark_at (m ∷ node) i ≢ Open)
+further m node d (inl found) = inl (suc found.0, record { open_mark = found.1.open_mark; first = before })
+  where
+    before : (j : ℕ) → j < suc found.0 → mark_at (m ∷ node) j ≢ Open
+    before zero l = d
+    before (suc j) l = found.1.first j (omega arith)
+further m node d (inr none) = inr all
+  where
+    all : (i : ℕ) → i < length (m ∷ node) → mark_at (m ∷ node) i ≢ Open
+    all zero l = d
+    all (suc i) l = none i (omega arith)
+
+-- There is a first Open product, or each is settled.
+pub first_or_none : (node : List Mark) → ((i : ℕ) × IsFirstOpen node i) ⊎ ((i : ℕ) → i < length node → mark_at node i ≢ Open)
+first_or_none [] = inr (λ i l. absurd (omega arith))
+first_or_none (Open ∷ node) = inl (0, record { open_mark = refl; first = λ j l. absurd (omega arith) })
+first_or_none (In ∷ node) = further In node (λ e. cc) (first_or_none node)
+first_or_none (Out ∷ node) = further Out node (λ e. cc) (first_or_none node)

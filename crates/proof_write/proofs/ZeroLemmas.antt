@@ -28,7 +28,7 @@ use Rattle.multiplier_bound.proofs.RelaxLemmas.{kept_yes, kept_no}
 use Rattle.proof_lines.specs.declared.line.Shape.TheVariants as S
 use Rattle.proof_lines.specs.Lines.{IsLine}
 use Rattle.proof_lines.specs.Closing.{own_prices, BoundCloses, PricesClose, ClosesUnder, Closes}
-use Rattle.proof_write.specs.NodeLines.{zeros_of}
+use Rattle.proof_write.specs.ZeroRules.{zeros_of}
 
 -- ---- They are multipliers.
 

@@ -39,16 +39,20 @@ leaf_line (C.Multipliers us) = line S.Multipliers us.items
 leaf_line C.Shelf = line S.Shelf []
 leaf_line (C.Potentials us) = line S.Potentials us.items
 
--- The leaf can be printed: a line of at most so many numbers as there may be limits.
-pub record IsPrintable (closing : Closing) : Type 0 where
-  pub grammar : IsLine (leaf_line closing).shape (leaf_line closing).numbers
-  pub few : length (leaf_line closing).numbers ≤ MOST_LIMITS
+-- The line can be printed: one of at most so many numbers as there may be limits.
+pub record IsPrintable (l : LineData) : Type 0 where
+  pub grammar : IsLine l.shape l.numbers
+  pub few : length l.numbers ≤ MOST_LIMITS
 
-abbrev pub closing_at : List Closing → ℕ → Closing
-closing_at leaves k = slice_index_or leaves k C.Clash
+abbrev pub leaf_at : List LineData → ℕ → LineData
+leaf_at leaves k = slice_index_or leaves k (line S.Clash [])
+
+-- The line says what closes the node.
+abbrev pub Says : ProblemData → Prices → List Mark → LineData → Type 0
+Says p at node l = (closing : Closing) × Closes p at node closing × (leaf_line closing ≡ l)
 
 -- For each product below the end what closes the node beside the path there, and last what closes the path's own node.
-pub record AreLeaves (p : ProblemData) (at : Prices) (x : List Bool) (end : ℕ) (leaves : List Closing) : Type 0 where
+pub record AreLeaves (p : ProblemData) (at : Prices) (x : List Bool) (end : ℕ) (leaves : List LineData) : Type 0 where
   pub each : length leaves ≡ end + 1
-  pub sides : (k : ℕ) → k < end → Closes p at (side_node x k) (closing_at leaves k)
-  pub last : Closes p at (path_node x end) (closing_at leaves end)
+  pub sides : (k : ℕ) → k < end → Says p at (side_node x k) (leaf_at leaves k)
+  pub last : Says p at (path_node x end) (leaf_at leaves end)

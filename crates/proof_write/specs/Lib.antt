@@ -1,8 +1,5 @@
+pub mod Outputs
 pub mod HeaderLines
 pub mod Leaves
-pub mod PathLines
-pub mod NodeLines
-pub mod ZeroLeaves
-pub mod Walk
-pub mod Outputs
-pub mod Room
+pub mod PathRules
+pub mod ZeroRules

@@ -1,3 +1,4 @@
+//! Why a certificate was not written.
 use offer_model::NoMemory;
 use std::error::Error;
 use std::fmt;

@@ -1,4 +1,5 @@
-ghost use Rattle.std.specs.Prelude.{◌≡◌, ◌<◌, ◌≤◌, [], ◌∷◌, length, IsTrue};
+//! The header of a certificate.
+ghost use Rattle.std.specs.Prelude.{◌≡◌, ◌<◌, ◌≤◌, [], ◌∷◌, length, All, IfOk};
 ghost use Rattle.offer_model.specs.Problems.{product_count};
 ghost use Rattle.offer_model.specs.Ranges.{gain_bound, weight_bound};
 ghost use Rattle.offer_model.specs.Validity.{IsRatioModel};
@@ -8,34 +9,12 @@ ghost use Rattle.proof_lines.specs.Lines.{line};
 ghost use Rattle.proof_lines.specs.Closing.{own_prices};
 ghost use Rattle.proof_lines.specs.Acceptance.{digits_of, value_numbers};
 ghost use Rattle.proof_lines.specs.declared.line.Shape.TheVariants as Shapes;
+ghost use Rattle.proof_tree.specs.Pens.{IsWritable, line_data, lines_data};
 ghost use Rattle.proof_write.specs.HeaderLines.{header_lines};
-ghost use Rattle.proof_write.specs.Outputs.{Writes};
 
-use crate::line_writer::{LineWriter, write_bare};
-use offer_io::{Failed, Store};
-use offer_model::{Assortment, Fraction, ModelName, Problem, gain, weight};
-use proof_lines::Shape;
-
-/// Puts the digits of an assortment into a set line.
-fn fill_set(x: &Assortment, writer: &mut LineWriter)
-    requires { length x.now ≤ most_products }
-    ensures { writer.new ≡ line Shapes.Set (digits_of x.now) }
-{
-    writer.begin(Shape::Set);
-    for i in 0..x.len() {
-        writer.push(u128::from(x.offers(i)));
-    }
-}
-
-/// Writes the set line.
-fn write_set<S: Store>(x: &Assortment, writer: &mut LineWriter, store: &mut S) -> Result<(), Failed>
-    requires few { length x.now ≤ most_products }
-    requires output { IsTrue (S.view store.old).writing }
-    ensures { Writes (S.view store.old) (line Shapes.Set (digits_of x.now) ∷ []) result (S.view store.new) }
-{
-    fill_set(x, writer);
-    writer.write(store)
-}
+use offer_model::{Assortment, Fraction, ModelName, NoMemory, Problem, Wide, gain, weight};
+use proof_lines::{Line, Shape};
+use std::alloc::Global;
 
 /// What the assortment earns.
 pub(crate) fn earned_by(p: &Problem, x: &Assortment) -> Fraction
@@ -55,47 +34,65 @@ pub(crate) fn earned_by(p: &Problem, x: &Assortment) -> Fraction
     }
 }
 
-/// Puts a fraction into a value line.
-fn fill_value(earned: &Fraction, writer: &mut LineWriter)
-    ensures { writer.new ≡ line Shapes.Value (1 ∷ earned.now.num ∷ earned.now.den ∷ []) }
+/// A line without numbers.
+pub(crate) fn bare(alloc: Global, shape: Shape) -> Line
+    ensures { line_data result ≡ line shape [] }
 {
-    writer.begin(Shape::Value);
-    writer.push(1);
-    writer.push(earned.num);
-    writer.push(earned.den);
+    Line {
+        shape,
+        numbers: Wide::new(alloc),
+    }
 }
 
-/// Writes the value line.
-fn write_value<S: Store>(
-    earned: &Fraction,
-    writer: &mut LineWriter,
-    store: &mut S,
-) -> Result<(), Failed>
-    requires num { earned.now.num < gain_bound }
-    requires den { earned.now.den < weight_bound }
-    requires output { IsTrue (S.view store.old).writing }
-    ensures { Writes (S.view store.old) (line Shapes.Value (1 ∷ earned.now.num ∷ earned.now.den ∷ []) ∷ []) result (S.view store.new) }
+/// The set line.
+fn set_line(alloc: Global, x: &Assortment) -> Result<Line, NoMemory>
+    ensures { IfOk result (λ l. line_data l ≡ line Shapes.Set (digits_of x.now)) }
 {
-    fill_value(earned, writer);
-    writer.write(store)
+    let mut numbers = Wide::new(alloc);
+    numbers.reserve(x.len())?;
+    for i in 0..x.len() {
+        numbers.push(u128::from(x.offers(i)));
+    }
+    Ok(Line {
+        shape: Shape::Set,
+        numbers,
+    })
 }
 
-/// Writes the header.
-pub(crate) fn write_header<S: Store>(
+/// The value line.
+fn value_line(alloc: Global, earned: &Fraction) -> Result<Line, NoMemory>
+    ensures { IfOk result (λ l. line_data l ≡ line Shapes.Value (1 ∷ earned.now.num ∷ earned.now.den ∷ [])) }
+{
+    let mut numbers = Wide::new(alloc);
+    numbers.reserve(3)?;
+    numbers.push(1);
+    numbers.push(earned.num);
+    numbers.push(earned.den);
+    Ok(Line {
+        shape: Shape::Value,
+        numbers,
+    })
+}
+
+/// The lines of the header.
+pub(crate) fn header_of(
+    alloc: Global,
     model: ModelName,
     x: &Assortment,
     earned: &Fraction,
-    writer: &mut LineWriter,
-    store: &mut S,
-) -> Result<(), Failed>
+) -> Result<Vec<Line>, NoMemory>
     requires num { earned.now.num < gain_bound }
     requires den { earned.now.den < weight_bound }
     requires few { length x.now ≤ most_products }
-    requires output { IsTrue (S.view store.old).writing }
-    ensures { Writes (S.view store.old) (header_lines model x.now (1 ∷ earned.now.num ∷ earned.now.den ∷ [])) result (S.view store.new) }
+    ensures lines { IfOk result (λ lines. lines_data lines.items
+        ≡ header_lines model x.now (1 ∷ earned.now.num ∷ earned.now.den ∷ [])) }
+    ensures writable { IfOk result (λ lines. All IsWritable lines.items) }
 {
-    write_bare(Shape::Start, writer, store)?;
-    write_bare(Shape::Model(model), writer, store)?;
-    write_set(x, writer, store)?;
-    write_value(earned, writer, store)
+    let mut lines = Vec::new(alloc);
+    lines.reserve(4)?;
+    lines.push_reserved(bare(alloc, Shape::Start));
+    lines.push_reserved(bare(alloc, Shape::Model(model)));
+    lines.push_reserved(set_line(alloc, x)?);
+    lines.push_reserved(value_line(alloc, earned)?);
+    Ok(lines)
 }

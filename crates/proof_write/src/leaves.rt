@@ -1,3 +1,4 @@
+//! The leaves beside the path along an assortment.
 ghost use Rattle.std.specs.Prelude.{◌≡◌, ◌<◌, ◌≤◌, ◌↔◌, length, IfOk};
 ghost use Rattle.offer_model.specs.Problems.{ProblemData, product_count};
 ghost use Rattle.offer_model.specs.Ranges.{gain_bound, weight_bound};
@@ -6,10 +7,13 @@ ghost use Rattle.offer_model.specs.Prices.{prices_at};
 ghost use Rattle.linear_step.specs.Weights.{prices_of, AreWeights, AreAt};
 ghost use Rattle.proof_lines.specs.Closing.{own_prices};
 ghost use Rattle.proof_lines.specs.Writing.{offered_end};
-ghost use Rattle.proof_write.specs.Leaves.{mark_of, AreLeaves};
+ghost use Rattle.proof_tree.specs.Pens.{line_data, lines_data};
+ghost use Rattle.proof_write.specs.Leaves.{mark_of, leaf_line, AreLeaves};
 
+use crate::header::bare;
 use linear_step::{Closer, Closing, Weights, weights_at};
 use offer_model::{Assortment, Fraction, Mark, NoMemory, Node, Problem};
+use proof_lines::{Line, Shape};
 use std::alloc::Global;
 
 /// The number of products up to the last that is offered.
@@ -27,7 +31,8 @@ pub(crate) fn end_of_offered(x: &Assortment) -> usize
     0
 }
 
-fn mark_of(offered: bool) -> Mark
+/// The mark of a product that is offered, or isn't.
+pub(crate) fn mark_of(offered: bool) -> Mark
     ensures { result ≡ mark_of offered }
 {
     if offered { Mark::In } else { Mark::Out }
@@ -46,6 +51,24 @@ pub(crate) fn weights_of(alloc: Global, p: &Problem, earned: &Fraction) -> Resul
     Ok(weights)
 }
 
+/// The line that says what closes a node.
+fn line_of(alloc: Global, closing: Closing) -> Line
+    ensures { line_data result ≡ leaf_line closing }
+{
+    match closing {
+        Closing::Clash => bare(alloc, Shape::Clash),
+        Closing::Multipliers(numbers) => Line {
+            shape: Shape::Multipliers,
+            numbers,
+        },
+        Closing::Shelf => bare(alloc, Shape::Shelf),
+        Closing::Potentials(numbers) => Line {
+            shape: Shape::Potentials,
+            numbers,
+        },
+    }
+}
+
 /// Closes the nodes beside the path along the assortment, up to the last that is offered, and then the path's own node.
 fn leaves_at<C: Closer>(
     alloc: Global,
@@ -53,12 +76,12 @@ fn leaves_at<C: Closer>(
     x: &Assortment,
     weights: &Weights,
     step: &mut C,
-) -> Result<Vec<Closing>, NoMemory>
+) -> Result<Vec<Line>, NoMemory>
     requires fits { C.fits step.old p.now }
     requires weights { AreWeights p.now weights.now }
     requires length { length x.now ≡ product_count p.now }
     ensures fits { (q : ProblemData) → C.fits step.old q ↔ C.fits step.new q }
-    ensures leaves { IfOk result (λ leaves. AreLeaves p.now (prices_of weights.now) x.now (offered_end x.now) leaves.items) }
+    ensures leaves { IfOk result (λ leaves. AreLeaves p.now (prices_of weights.now) x.now (offered_end x.now) (lines_data leaves.items)) }
 {
     let end = end_of_offered(x);
     let mut node = Node::open(alloc, p.products().len())?;
@@ -66,10 +89,10 @@ fn leaves_at<C: Closer>(
     leaves.reserve(end + 1)?;
     for k in 0..end {
         node.set(k, mark_of(!x.offers(k)));
-        leaves.push_reserved(step.close(p, weights, &node)?);
+        leaves.push_reserved(line_of(alloc, step.close(p, weights, &node)?));
         node.set(k, mark_of(x.offers(k)));
     }
-    leaves.push_reserved(step.close(p, weights, &node)?);
+    leaves.push_reserved(line_of(alloc, step.close(p, weights, &node)?));
     Ok(leaves)
 }
 
@@ -80,7 +103,7 @@ pub(crate) fn leaves_of<C: Closer>(
     x: &Assortment,
     earned: &Fraction,
     step: &mut C,
-) -> Result<Vec<Closing>, NoMemory>
+) -> Result<Vec<Line>, NoMemory>
     requires model { IsRatioModel p.now.model }
     requires fits { C.fits step.old p.now }
     requires length { length x.now ≡ product_count p.now }
@@ -88,7 +111,7 @@ pub(crate) fn leaves_of<C: Closer>(
     requires den { (1 ≤ earned.now.den) × (earned.now.den < weight_bound) }
     requires prices { own_prices p.now x.now ≡ prices_at p.now earned.now.num earned.now.den }
     ensures fits { (q : ProblemData) → C.fits step.old q ↔ C.fits step.new q }
-    ensures leaves { IfOk result (λ leaves. AreLeaves p.now (own_prices p.now x.now) x.now (offered_end x.now) leaves.items) }
+    ensures leaves { IfOk result (λ leaves. AreLeaves p.now (own_prices p.now x.now) x.now (offered_end x.now) (lines_data leaves.items)) }
 {
     let weights = weights_of(alloc, p, earned)?;
     leaves_at(alloc, p, x, &weights, step)

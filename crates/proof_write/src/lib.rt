@@ -4,13 +4,10 @@
 mod faults;
 mod header;
 mod leaves;
-mod line_writer;
-mod node_line;
-mod path;
+mod path_rule;
 mod ratio;
 mod search;
-mod walk;
-mod zero_leaf;
+mod zero_rule;
 
 pub use faults::ProofFault;
 pub use ratio::write_ratio_proof;

@@ -6,7 +6,7 @@ use Rattle.offer_model.specs.Problems.{product_at, no_product}
 use Rattle.offer_model.specs.LeafBounds.{greater_of, leaving_out, offering, raised_by}
 use Rattle.linear_step.specs.Weights.{weight_at}
 use Rattle.proof_check.proofs.ListLemmas.{item_is}
-use Rattle.proof_check.proofs.PathLemmas.{get_or_any}
+use Rattle.multiplier_bound.proofs.PriceLemmas.{get_or_any}
 use Rattle.proof_check.proofs.SpaceLemmas.{best_small, best_fits, best_over}
 use Rattle.proof_check.proofs.shelf.best_with.Goals as goal
 use Rattle.proof_check.proofs.shelf.best_with.Goals.{then-space-room, else-space-room}

@@ -1,12 +1,13 @@
-use Rattle.std.proofs.Common.{◌≡◌, ◌∙◌, ◌+◌, ◌<◌, length, ap, arith, rules}
+use Rattle.std.proofs.Common.{◌≡◌, ◌∙◌, ◌+◌, ◌<◌, length, ap, refl, arith, rules}
 use Rattle.std.specs.Prelude.{slice_set}
 use Rattle.std.proofs.lemmas.List.{length-set, length_push}
 use Rattle.offer_model.specs.Problems.{product_count}
 use Rattle.offer_model.specs.Nodes.{open_node}
 use Rattle.linear_step.specs.Weights.{prices_of}
-use Rattle.proof_write.specs.Leaves.{path_node}
+use Rattle.proof_tree.specs.Pens.{lines_data}
+use Rattle.proof_write.specs.Leaves.{path_node, leaf_line}
 use Rattle.proof_lines.specs.Writing.{offered_end}
-use Rattle.proof_write.proofs.LeafLemmas.{marked_beside, marked_along, sides_more, leaves_all}
+use Rattle.proof_write.proofs.LeafLemmas.{marked_beside, marked_along, sides_more, leaves_all, data_push, data_length}
 use Rattle.proof_write.proofs.PathLemmas.{node-length, node-open}
 use Rattle.proof_write.proofs.leaves.leaves_at.Goals as goal
 
@@ -56,9 +57,10 @@ loop-k-preserved g c =
     let pushed = c.push_reserved.ensures in
     record {
       node = c.set-in-loop-k.ensures ∙ marked_along x c.set.new.self k c.mark_of-in-loop-k.result c.offers-in-loop-k.result below beside c.mark_of-in-loop-k.ensures c.offers-in-loop-k.ensures;
-      each = ap length pushed.items ∙ length_push c.loop-k.leaves.items c.in_ok-close.field-0 ∙ ap (λ n. n + 1) held.each;
-      sides = sides_more c.args.p.now (prices_of c.args.weights.now) x k c.loop-k.leaves.items c.push_reserved.new.self.items c.set.new.self c.in_ok-close.field-0
-          pushed.items held.each held.sides beside closed.answer;
+      each = ap length pushed.items ∙ length_push c.loop-k.leaves.items c.line_of.result ∙ ap (λ n. n + 1) held.each;
+      sides = sides_more c.args.p.now (prices_of c.args.weights.now) x k (lines_data c.loop-k.leaves.items) (lines_data c.push_reserved.new.self.items) c.set.new.self (leaf_line c.in_ok-close.field-0)
+          (ap lines_data pushed.items ∙ data_push c.loop-k.leaves.items c.line_of.result (leaf_line c.in_ok-close.field-0) c.line_of.ensures)
+          (data_length c.loop-k.leaves.items ∙ held.each) held.sides beside (c.in_ok-close.field-0, closed.answer, refl);
       room = search rules;
       fits = λ q. (λ h. (closed.fits q).0 ((held.fits q).0 h), λ h. (held.fits q).1 ((closed.fits q).1 h));
     }
@@ -71,5 +73,7 @@ returns-clause-leaves g c =
     let x = c.args.x.now in
     let held = c.loop-k.invariant in
     let value = c.end_of_offered-end.ensures.value in
-    leaves_all c.args.p.now (prices_of c.args.weights.now) x (offered_end x) c.loop-k.k c.loop-k.leaves.items c.push_reserved-2.new.self.items
-    c.loop-k.node c.in_ok-close-2.field-0 (omega arith) c.push_reserved-2.ensures.items held.each held.sides held.node c.in_ok-close-2.ensures.answer
+    leaves_all c.args.p.now (prices_of c.args.weights.now) x (offered_end x) c.loop-k.k (lines_data c.loop-k.leaves.items) (lines_data c.push_reserved-2.new.self.items)
+    c.loop-k.node (leaf_line c.in_ok-close-2.field-0) (omega arith)
+    (ap lines_data c.push_reserved-2.ensures.items ∙ data_push c.loop-k.leaves.items c.line_of-2.result (leaf_line c.in_ok-close-2.field-0) c.line_of-2.ensures)
+    (data_length c.loop-k.leaves.items ∙ held.each) held.sides held.node (c.in_ok-close-2.field-0, c.in_ok-close-2.ensures.answer, refl)

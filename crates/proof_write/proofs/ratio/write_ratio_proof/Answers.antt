@@ -1,37 +1,43 @@
-use Rattle.std.proofs.Common.{[], ◌∷◌}
+use Rattle.std.proofs.Common.{◌∙◌, ◌+◌, sym, arith, ap}
 use Rattle.proof_lines.specs.Closing.{own_prices}
 use Rattle.proof_lines.specs.Writing.{offered_end}
-use Rattle.proof_write.proofs.LineLemmas.{value_is_line}
-use Rattle.proof_write.proofs.RatioProofLemmas.{AreLeaves-printable, written_whole, written_part}
+use Rattle.proof_tree.specs.Pens.{lines_data}
+use Rattle.proof_write.proofs.LeafLemmas.{data_length}
+use Rattle.proof_write.proofs.RatioProofLemmas.{AreLeaves-printable, path_writes}
+use Rattle.proof_write.proofs.WrittenLemmas.{header_is, proof_whole, proof_part, proof_unready}
 use Rattle.proof_write.proofs.ratio.write_ratio_proof.Goals as goal
 
-pub write_lines-requires-clause-printable : goal.write_lines-requires-clause-printable
-write_lines-requires-clause-printable g c =
-    let p = c.args.p.now in
-    let x = c.args.x.now in
-    rw c.deref.ensures.value
-    (AreLeaves-printable p (own_prices p x) x (offered_end x) c.in_ok-leaves.leaves.items c.model.ensures.valid c.in_ok-leaves.ensures.leaves)
+pub invariant_of-rule : goal.invariant_of-rule
+invariant_of-rule g c =
+    let ls = c.in_ok-leaves.leaves.items in
+    let closed = c.in_ok-leaves.ensures.leaves in
+    record {
+      last = c.end_of_offered.ensures.value;
+      each = sym (data_length ls) ∙ closed.each ∙ ap (λ n. n + 1) (sym c.end_of_offered.ensures.value);
+      printable = λ k b. AreLeaves-printable c.args.p.now (own_prices c.args.p.now c.args.x.now) c.args.x.now (offered_end c.args.x.now) (lines_data ls) c.model.ensures.valid closed k
+          (let same = data_length ls in omega arith);
+    }
 
 pub returns-in-Ok-clause-written : goal.returns-in-Ok-clause-written
-returns-in-Ok-clause-written g c =
-    let earned = c.earned_by-earned in
-    written_whole _ _ c.args.p.now c.args.x.now c.in_ok-leaves.leaves.items c.model.result (1 ∷ earned.result.num ∷ earned.result.den ∷ []) _ (record {
-      valid = c.model.ensures.valid;
-      ratio = c.requires.model;
-      kind = c.requires.kind;
-      best = c.requires.best;
-      closed = c.in_ok-leaves.ensures.leaves;
-    }) earned.ensures.few c.model.ensures.value earned.ensures.value
-    (value_is_line earned.result.num earned.result.den earned.ensures.num earned.ensures.den.1) (rw c.deref.ensures.value at c.in-Ok.ensures)
+returns-in-Ok-clause-written g c = proof_whole _ _ _ _ (path_writes c.args.p.now c.args.x.now _ (lines_data c.in_ok-leaves.leaves.items) c.deref.result.now _ _ _ c.in_ok-path.path.products (c.in_ok-path.ensures.products ∙ c.len.ensures)
+    (header_is c.args.p.now c.args.x.now c.earned_by-earned.result.num c.earned_by-earned.result.den c.model.result c.in_ok-header.header.items c.deref.result.now c.requires.model c.requires.best
+    c.earned_by-earned.ensures.few c.earned_by-earned.ensures.value c.earned_by-earned.ensures.num c.earned_by-earned.ensures.den.1 c.model.ensures.value c.in_ok-header.ensures.lines c.deref.ensures.value)
+    (record { valid = c.model.ensures.valid; ratio = c.requires.model; kind = c.requires.kind; best = c.requires.best; closed = c.in_ok-leaves.ensures.leaves }) c.in-Ok.ensures)
 
 pub returns-clause-part : goal.returns-clause-part
-returns-clause-part g c = λ failed.
-    let earned = c.earned_by-earned in
-    written_part _ _ c.args.p.now c.args.x.now c.in_ok-leaves.leaves.items c.model.result (1 ∷ earned.result.num ∷ earned.result.den ∷ []) _ (record {
-      valid = c.model.ensures.valid;
-      ratio = c.requires.model;
-      kind = c.requires.kind;
-      best = c.requires.best;
-      closed = c.in_ok-leaves.ensures.leaves;
-    }) earned.ensures.few c.model.ensures.value earned.ensures.value
-    (value_is_line earned.result.num earned.result.den earned.ensures.num earned.ensures.den.1) (rw c.deref.ensures.value at c.in-Err.ensures)
+returns-clause-part g c = λ failed. proof_part _ _ _ _ (path_writes c.args.p.now c.args.x.now _ (lines_data c.in_ok-leaves.leaves.items) c.deref.result.now _ _ _ c.in_ok-path.path.products (c.in_ok-path.ensures.products ∙ c.len.ensures)
+    (header_is c.args.p.now c.args.x.now c.earned_by-earned.result.num c.earned_by-earned.result.den c.model.result c.in_ok-header.header.items c.deref.result.now c.requires.model c.requires.best
+    c.earned_by-earned.ensures.few c.earned_by-earned.ensures.value c.earned_by-earned.ensures.num c.earned_by-earned.ensures.den.1 c.model.ensures.value c.in_ok-header.ensures.lines c.deref.ensures.value)
+    (record { valid = c.model.ensures.valid; ratio = c.requires.model; kind = c.requires.kind; best = c.requires.best; closed = c.in_ok-leaves.ensures.leaves }) c.in-Err.ensures)
+
+pub returns-clause-cause : goal.returns-clause-cause
+returns-clause-cause g c = λ failed. (path_writes c.args.p.now c.args.x.now _ (lines_data c.in_ok-leaves.leaves.items) c.deref.result.now _ _ _ c.in_ok-path.path.products (c.in_ok-path.ensures.products ∙ c.len.ensures)
+    (header_is c.args.p.now c.args.x.now c.earned_by-earned.result.num c.earned_by-earned.result.den c.model.result c.in_ok-header.header.items c.deref.result.now c.requires.model c.requires.best
+    c.earned_by-earned.ensures.few c.earned_by-earned.ensures.value c.earned_by-earned.ensures.num c.earned_by-earned.ensures.den.1 c.model.ensures.value c.in_ok-header.ensures.lines c.deref.ensures.value)
+    (record { valid = c.model.ensures.valid; ratio = c.requires.model; kind = c.requires.kind; best = c.requires.best; closed = c.in_ok-leaves.ensures.leaves }) c.in-Err.ensures).2.cause
+
+pub returns-clause-ready : goal.returns-clause-ready
+returns-clause-ready g c = λ steady failed. proof_unready _ _ _ _ (path_writes c.args.p.now c.args.x.now _ (lines_data c.in_ok-leaves.leaves.items) c.deref.result.now _ _ _ c.in_ok-path.path.products (c.in_ok-path.ensures.products ∙ c.len.ensures)
+    (header_is c.args.p.now c.args.x.now c.earned_by-earned.result.num c.earned_by-earned.result.den c.model.result c.in_ok-header.header.items c.deref.result.now c.requires.model c.requires.best
+    c.earned_by-earned.ensures.few c.earned_by-earned.ensures.value c.earned_by-earned.ensures.num c.earned_by-earned.ensures.den.1 c.model.ensures.value c.in_ok-header.ensures.lines c.deref.ensures.value)
+    (record { valid = c.model.ensures.valid; ratio = c.requires.model; kind = c.requires.kind; best = c.requires.best; closed = c.in_ok-leaves.ensures.leaves }) c.in-Err.ensures) steady

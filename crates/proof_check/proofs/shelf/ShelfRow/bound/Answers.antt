@@ -1,6 +1,6 @@
 use Rattle.std.proofs.Common.{◌<◌, ◌-◌, ◌^◌, ◌∙◌, sym, arith, length, subst, None}
 use Rattle.proof_check.specs.Shelves.{IsSmall}
-use Rattle.proof_check.proofs.PathLemmas.{get_or_any}
+use Rattle.multiplier_bound.proofs.PriceLemmas.{get_or_any}
 use Rattle.proof_check.proofs.shelf.ShelfRow.bound.Goals as goal
 
 pub raised_by-requires-clause-sum : goal.raised_by-requires-clause-sum
