@@ -1,4 +1,5 @@
-//! The search for a shortest augmenting path, breadth first over the residual network.
+//! The search for a shortest augmenting path, breadth first over the residual network. That shortest paths are at most as
+//! many as products times rows is the textbook's (Edmonds and Karp, 1972): no clause states it.
 ghost use Rattle.std.specs.Prelude.{◌≡◌, ℕ, ◌<◌, ◌-◌, true, length};
 ghost use Rattle.offer_model.specs.Nodes.{mark_at};
 ghost use Rattle.cut_step.specs.Closures.{price_at};
