@@ -144,6 +144,13 @@ const SPACES: &[u8] = b"name,margin,attraction,space\nA,10,2,3\nB,8,2,2\nC,8,2,2
 const RUNGS: &[u8] =
     b"name,margin,attraction,ladder,grade,price\nA,5,1,k,1,5\nB,8,1,k,1,8\nC,6,1,k,2,6\n";
 
+/// At 32/8 they weigh 96, 64 and 64, and nothing weighs -128; the first takes all of a shelf of 4.
+const GREAT_SPACES: &[u8] = b"name,margin,attraction,space\nA,10,2,4\nB,8,2,3\nC,8,2,3\n";
+
+/// At 8/2 they weigh 2, 8, 4, 2, 2 and -2, and nothing weighs -8. On the second ladder the price doesn't rise.
+const THREE_LADDERS: &[u8] = b"name,margin,attraction,ladder,grade,price\n\
+    A,5,1,a,1,5\nB,8,1,a,1,8\nC,6,1,a,2,6\nD,5,1,b,1,3\nE,5,1,b,2,3\nF,3,1,c,0,1\n";
+
 const NO_LIMITS: &[u8] = b"kind,first,second,number\n";
 
 const ONE: &[u8] = b"kind,first,second,number\ntotal,,,1\n";
@@ -152,6 +159,14 @@ const TWO_AND_ONE_EACH: &[u8] =
     b"kind,first,second,number\ncategory,x,,1\ntotal,,,2\ncategory,y,,1\n";
 
 const PAIRS: &[u8] = b"kind,first,second,number\nrequires,A,B,\nrequires,B,C,\n";
+
+const PAIRS_FROM_THE_END: &[u8] = b"kind,first,second,number\nrequires,B,C,\nrequires,A,B,\n";
+
+const NO_SHELF: &[u8] = b"kind,first,second,number\nshelf,,,0\n";
+
+const FIRST_LADDER: &[u8] = b"kind,first,second,number\nladder,a,,\n";
+
+const ALL_LADDERS: &[u8] = b"kind,first,second,number\nladder,a,,\nladder,b,,\nladder,c,,\n";
 
 const SHELF: &[u8] = b"kind,first,second,number\nshelf,,,4\n";
 
@@ -186,7 +201,12 @@ fn a_step_answers_the_greatest_completion_and_its_closer_what_closes(
     let one = (TWINS, ONE, 2, (20, 4));
     let each = (FOUR, TWO_AND_ONE_EACH, 2, (20, 4));
     let pairs = (CHAIN, PAIRS, 2, (10, 5));
+    let turned = (CHAIN, PAIRS_FROM_THE_END, 2, (10, 5));
     let shelf = (SPACES, SHELF, 4, (32, 8));
+    let no_shelf = (SPACES, NO_SHELF, 4, (32, 8));
+    let great = (GREAT_SPACES, SHELF, 4, (32, 8));
+    let first_ladder = (THREE_LADDERS, FIRST_LADDER, 1, (8, 2));
+    let all_ladders = (THREE_LADDERS, ALL_LADDERS, 1, (8, 2));
     let ladder = (RUNGS, LADDER, 1, (8, 2));
     let several = (TWO, ONE_WITH_ITS_PAIR, 5, (12, 8));
     let cases = [
@@ -211,6 +231,11 @@ fn a_step_answers_the_greatest_completion_and_its_closer_what_closes(
         case_of("one without what it requires", pairs, b"IO-", None, "x"),
         case_of("one far from what it requires", pairs, b"I-O", None, "m"),
         case_of("what is required alone", pairs, b"O-I", Some(-30), "m"),
+        case_of("rows from the chain's end", turned, b"---", Some(0), "m"),
+        case_of("no shelf, no product", no_shelf, b"---", Some(-128), "t"),
+        case_of("a product that just fits", great, b"---", Some(-32), "t"),
+        case_of("one beside what is In", shelf, b"-I-", Some(0), "t"),
+        case_of("one beside what is Out", shelf, b"-O-", Some(-32), "t"),
         case_of("two that fit the shelf", shelf, b"---", Some(0), "t"),
         case_of("no space beside the first", shelf, b"I--", Some(-32), "t"),
         case_of("more than the shelf holds", shelf, b"II-", None, "x"),
@@ -220,6 +245,20 @@ fn a_step_answers_the_greatest_completion_and_its_closer_what_closes(
             ladder,
             b"I--",
             Some(-2),
+            "p",
+        ),
+        case_of(
+            "products on no limited ladder",
+            first_ladder,
+            b"------",
+            Some(4),
+            "p",
+        ),
+        case_of(
+            "two rungs of one price",
+            all_ladders,
+            b"------",
+            Some(4),
             "p",
         ),
         case_of("a higher rung at a lower price", ladder, b"-II", None, "x"),
