@@ -1,6 +1,6 @@
 -- Laws of the table for callers' proofs: how the best of a room follows from the next product's, and the bound of a
 -- shelf's leaf by what is In and the best of the rest.
-use Rattle.std.proofs.Common.{◌≡◌, ◌≢◌, ℕ, zero, suc, ◌+◌, ◌-◌, ◌<◌, ◌≤◌, Bool, true, false, cond, List, [], ◌∷◌, Option, Some, None, refl, sym, ap, arith, subst, inl, inr, ◌∙◌, leb}
+use Rattle.std.proofs.Common.{◌≡◌, ◌≢◌, ℕ, zero, suc, ◌+◌, ◌-◌, ◌<◌, ◌≤◌, Bool, true, false, cond, List, Option, Some, None, refl, sym, ap, arith, subst, inl, inr, ◌∙◌, leb}
 use Rattle.std.specs.Prelude.{pos, ◌+ℤ◌, ◌≤ℤ◌, nat_le, ◌⊎◌}
 use Rattle.std.specs.Int.{int_max}
 use Rattle.std.proofs.lemmas.Int.{ints, clamps, by_lt_z}
@@ -15,6 +15,9 @@ use Rattle.offer_model.specs.Nodes.{mark_at, is_in, fill_of, Agrees, settled_nod
 use Rattle.offer_model.specs.Prices.{Prices, int_sum_below, worth_of}
 use Rattle.offer_model.specs.LeafBounds.{greater_of, raised_by, best_in_space, shelf_space, shelf_bound}
 use Rattle.offer_model.proofs.ShelfLemmas.{Reaches, in_space_step}
+use Rattle.offer_model.proofs.NodeLemmas.{offers-fill_of}
+-- The name by which callers cite what a fill offers.
+pub use Rattle.offer_model.proofs.NodeLemmas.{offers-fill_of as fill_at}
 use Rattle.shelf_table.specs.Tables.{space_of, better_of, best_of, best_from, free_price, free_prices}
 
 -- ---- The best of a room.
@@ -133,12 +136,6 @@ rest_from p marks price (suc k) room l settled =
 
 -- ---- What is In.
 
--- The fill of a node offers what is In.
-pub fill_at : (marks : List Mark) (i : ℕ) → offers (fill_of marks) i ≡ is_in (mark_at marks i)
-fill_at [] i = refl
-fill_at (m ∷ marks) zero = refl
-fill_at (m ∷ marks) (suc i) = fill_at marks i
-
 abbrev used : ProblemData → List Mark → ℕ → ℕ
 used p marks k = sum_below k (λ i. cond (offers (fill_of marks) i) (space_of p i) 0)
 
@@ -146,16 +143,16 @@ abbrev earned : List Mark → (ℕ → ℤ) → ℕ → ℤ
 earned marks price k = int_sum_below k (λ i. cond (offers (fill_of marks) i) (price i) (pos 0))
 
 uses : (p : ProblemData) (marks : List Mark) (k : ℕ) → mark_at marks k ≡ In → cond (offers (fill_of marks) k) (space_of p k) 0 ≡ space_of p k
-uses p marks k e = rw (fill_at marks k, e) refl
+uses p marks k e = rw (offers-fill_of marks k, e) refl
 
 earns : (marks : List Mark) (price : ℕ → ℤ) (k : ℕ) → mark_at marks k ≡ In → cond (offers (fill_of marks) k) (price k) (pos 0) ≡ price k
-earns marks price k e = rw (fill_at marks k, e) refl
+earns marks price k e = rw (offers-fill_of marks k, e) refl
 
 uses_none : (p : ProblemData) (marks : List Mark) (k : ℕ) → is_in (mark_at marks k) ≡ false → cond (offers (fill_of marks) k) (space_of p k) 0 ≡ 0
-uses_none p marks k e = rw (fill_at marks k, e) refl
+uses_none p marks k e = rw (offers-fill_of marks k, e) refl
 
 earns_none : (marks : List Mark) (price : ℕ → ℤ) (k : ℕ) → is_in (mark_at marks k) ≡ false → cond (offers (fill_of marks) k) (price k) (pos 0) ≡ pos 0
-earns_none marks price k e = rw (fill_at marks k, e) refl
+earns_none marks price k e = rw (offers-fill_of marks k, e) refl
 
 -- ---- No choice gives more than what is In and the rest.
 

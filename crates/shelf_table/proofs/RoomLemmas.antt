@@ -1,8 +1,8 @@
 -- The room that a node leaves on a shelf.
-use Rattle.std.proofs.Common.{◌≡◌, ◌≢◌, ℕ, zero, suc, ◌+◌, ◌-◌, ◌<◌, ◌≤◌, cond, List, length, get_or, refl, sym, ap, arith, subst, inl, inr, ◌∙◌, add-one}
+use Rattle.std.proofs.Common.{◌≡◌, ℕ, ◌+◌, ◌-◌, ◌<◌, ◌≤◌, cond, List, length, get_or, refl, sym, ap, arith, subst, inl, inr, ◌∙◌, add-one}
 use Rattle.std.specs.Prelude.{Some, None, ◌⊎◌}
 use Rattle.std.proofs.lemmas.List.{get_or_past}
-use Rattle.std.proofs.lemmas.Bool.{cases_eq, cases_lt}
+use Rattle.std.proofs.lemmas.Bool.{cases_lt}
 use mathlib.Core.Path.{fun_ext}
 use Rattle.offer_model.specs.declared.node.Mark.{Mark}
 use Rattle.offer_model.specs.declared.node.Mark.TheVariants.{In}
@@ -11,9 +11,10 @@ use Rattle.offer_model.specs.Assortments.{offers, sum_below}
 use Rattle.offer_model.specs.Problems.{ProblemData, product_count, no_product}
 use Rattle.offer_model.specs.Revenue.{sum_offered}
 use Rattle.offer_model.specs.Nodes.{mark_at, fill_of}
+use Rattle.offer_model.proofs.NodeLemmas.{offers-fill_of}
+use Rattle.offer_model.proofs.SumLemmas.{sum_below_le}
 use Rattle.shelf_table.specs.Tables.{space_of}
 use Rattle.shelf_table.specs.Rooms.{AreSpaces, IsRoomLeft}
-use Rattle.shelf_table.proofs.CallerLemmas.{fill_at}
 
 -- ---- Spaces.
 
@@ -31,18 +32,10 @@ spaces_same p spaces s = fun_ext (λ i. by_place i (cases_lt i (product_count p)
 
 -- ---- Product by product.
 
-sum_below_le : (m n : ℕ) (f : ℕ → ℕ) → m ≤ n → sum_below m f ≤ sum_below n f
-sum_below_le m zero f l = let e : m ≡ 0 = omega arith in rw e (omega arith)
-sum_below_le m (suc n) f l = by_place (λ h. sum_below_le m n f h) (cases_eq m (suc n))
-  where
-    by_place : (m ≤ n → sum_below m f ≤ sum_below n f) → ((m ≡ suc n) ⊎ (m ≢ suc n)) → sum_below m f ≤ sum_below (suc n) f
-    by_place before (inl e) = rw e (omega arith)
-    by_place before (inr ne) = let b = before (omega arith) in omega arith
-
 sum_in : (spaces : List ℕ) (node : List Mark) (i : ℕ) → mark_at node i ≡ In
     → sum_below (i + 1) (λ j. cond (offers (fill_of node) j) (get_or spaces j 0) 0)
     ≡ sum_below i (λ j. cond (offers (fill_of node) j) (get_or spaces j 0) 0) + get_or spaces i 0
-sum_in spaces node i e = rw (add-one, fill_at node i, e) refl
+sum_in spaces node i e = rw (add-one, offers-fill_of node i, e) refl
 
 -- Where what is In doesn't fit the room that is left, all that is In is too wide.
 pub no_room : (spaces : List ℕ) (node : List Mark) (shelf i room : ℕ) → i < length spaces → mark_at node i ≡ In
