@@ -17,25 +17,25 @@ use Rattle.offer_model.specs.Problems.{ProblemData, product_count}
 use Rattle.offer_model.specs.Revenue.{sum_offered}
 use Rattle.offer_model.specs.Validity.{is_cap}
 use Rattle.offer_model.specs.Limits.{Meets, IsFeasible}
-use Rattle.offer_model.specs.Nodes.{Completes, Clashes}
+use Rattle.offer_model.specs.Nodes.{Completes}
 use Rattle.offer_model.specs.Prices.{Prices, worth_of}
 use Rattle.offer_model.specs.LeafBounds.{relaxed, taken_off, added_to, taken_by, added_by, allowed_by, priced_limits, priced_limit_at, is_priced, IsMultiplier, MultipliersFit, multipliers_bound}
-use Rattle.offer_model.proofs.SumLemmas.{over_times, over_same}
-use Rattle.offer_model.proofs.CompletionLemmas.{Completes-from_marks, clash_none}
+use Rattle.offer_model.proofs.SumLemmas.{over_times, over_same, sum_below-same, sum_below-zeros}
+use Rattle.offer_model.proofs.CompletionLemmas.{Completes-from_marks}
 use Rattle.offer_model.proofs.MultiplierLemmas.{sum_split, over_none}
 use Rattle.limit_rules.specs.Kinds.{kind_of}
 use Rattle.limit_rules.specs.declared.kind.Kind.TheVariants.{Caps}
 use Rattle.linear_step.specs.Weights.{price_bound}
-use Rattle.linear_step.specs.Answers.{IsGreatest, HasNone}
+use Rattle.linear_step.specs.Answers.{IsGreatest}
 use Rattle.linear_step.specs.Closings.{number_bound, Closes}
 use Rattle.linear_step.specs.declared.closing.Closing.TheVariants.{Multipliers}
-use Rattle.linear_step.proofs.CallerLemmas.{Closes-from_bound, HasShape-at}
+use Rattle.linear_step.proofs.CallerLemmas.{clash_has_none, Closes-from_bound, HasShape-at}
 use Rattle.rank_step.specs.Caps.{limit_at, cap_of, count_of, PlacesData, category_place, is_place, IsBelow, AreCapPlaces}
 use Rattle.rank_step.specs.Rooms.{RoomsData, cutoff_at, cutoff_of}
 use Rattle.rank_step.specs.Greedy.{IsFilling, IsFilled}
 use Rattle.rank_step.specs.Multipliers.{multiplier_at, AreMultipliers}
 use Rattle.rank_step.proofs.PlaceLemmas.{caps_at}
-use Rattle.rank_step.proofs.DualityLemmas.{FollowsPrices, UsesUp, tight, sum_equal}
+use Rattle.rank_step.proofs.DualityLemmas.{FollowsPrices, UsesUp, tight}
 use Rattle.rank_step.proofs.RoomLemmas.{one_at, one_place, counts_at, places_apart}
 
 -- ---- Caps as limits with multipliers.
@@ -106,13 +106,6 @@ one_term (suc n) a f l = by_place (λ h. one_term n a f h) (cases_eq n a)
         let other : one_at (Some a) n ≡ 0 = grind (arith, nat_tests) in
         rw (b, other) (omega arith)
 
-sum_zero : (n : ℕ) (f : ℕ → ℕ) → ((k : ℕ) → k < n → f k ≡ 0) → sum_below n f ≡ 0
-sum_zero zero f h = refl
-sum_zero (suc n) f h =
-    let before = sum_zero n f (λ k l. h k (omega arith)) in
-    let here = h n (omega arith) in
-    omega arith
-
 -- The multiplier of a cap, and 0 where there is none.
 paid : List ℕ → Option ℕ → ℕ
 paid us None = 0
@@ -120,7 +113,7 @@ paid us (Some k) = get_or us k 0
 
 term_at : (us : List ℕ) (place : Option ℕ) → IsBelow (length us) place → sum_below (length us) (λ k. get_or us k 0 * one_at place k) ≡ paid us place
 unfolding paid
-term_at us None l = sum_zero (length us) (λ k. get_or us k 0 * 0) (λ k h. omega arith)
+term_at us None l = sum_below-zeros (length us) (λ k. get_or us k 0 * 0) (λ k h. omega arith)
 term_at us (Some a) l = one_term (length us) a (λ k. get_or us k 0) l
 
 -- ---- A filling as an assortment.
@@ -203,7 +196,7 @@ filled_tight p node prices at x rooms us long places filled are = (fit, best.0, 
     }
 
     added_is : (i : ℕ) → added_to p us i ≡ 0
-    added_is i = sum_zero (length us) (λ k. added_by (priced_limit_at p k) (get_or us k 0) i) (λ k l. adds_none (priced_limit_at p k) (get_or us k 0) i (cap_at k l))
+    added_is i = sum_below-zeros (length us) (λ k. added_by (priced_limit_at p k) (get_or us k 0) i) (λ k l. adds_none (priced_limit_at p k) (get_or us k 0) i (cap_at k l))
 
     among : (place : Option ℕ) → IsBelow (length p.limits) place → IsBelow (length rooms.cutoffs) place
     among place = subst (λ n. IsBelow n place) (sym f.kept.cutoffs)
@@ -213,7 +206,7 @@ filled_tight p node prices at x rooms us long places filled are = (fit, best.0, 
 
     taken_is : (i : ℕ) → i < product_count p → taken_off p us i ≡ paid us at.total + paid us (category_place at i)
     taken_is i inside =
-        sum_equal (length us) (λ k. taken_by p (priced_limit_at p k) (get_or us k 0) i)
+        sum_below-same (length us) (λ k. taken_by p (priced_limit_at p k) (get_or us k 0) i)
         (λ k. get_or us k 0 * one_at at.total k + get_or us k 0 * one_at (category_place at i) k)
         (λ k l.
         let count = counts_at p at i k places inside (let e = us_long in omega arith) in
@@ -292,10 +285,6 @@ pub filled_greatest : (p : ProblemData) (node : List Mark) (prices : Prices) (at
 filled_greatest p node prices at x rooms long places filled =
     let us = made (length rooms.cutoffs) (multiplier_at at rooms) in
     (filled_tight p node prices at x rooms us.0 long places filled (record { each = us.1; is = us.2 })).1
-
--- A node that clashes has no feasible completion.
-pub clash_has_none : (p : ProblemData) (node : List Mark) → Clashes p node → HasNone p node
-clash_has_none p node clash y f c = clash_none p node y clash f c
 
 -- The multipliers are as small as the cutoffs.
 multipliers_small : (at : PlacesData) (rooms : RoomsData) (us : List ℕ) → AreMultipliers at rooms us → ((k : ℕ) → cutoff_at rooms k ≤ price_bound)

@@ -1,17 +1,17 @@
 -- Multipliers whose bound a feasible completion reaches: weak duality with complementary slackness.
-use Rattle.std.proofs.Common.{◌≡◌, ℕ, zero, suc, ◌+◌, ◌<◌, Bool, true, false, cond, List, length, refl, sym, ap, arith, ◌∙◌}
+use Rattle.std.proofs.Common.{◌≡◌, ℕ, ◌+◌, ◌<◌, Bool, true, false, cond, List, length, refl, sym, ap, arith, ◌∙◌}
 use Rattle.std.specs.Prelude.{slice_index, pos, negsuc, ◌+ℤ◌, ◌≤ℤ◌}
 use Rattle.std.proofs.lemmas.Int.{ints}
 use lib.IntN.{ℤ}
 use Rattle.offer_model.specs.declared.node.Mark.{Mark}
 use Rattle.offer_model.specs.declared.node.Mark.TheVariants.{In, Out, Open}
-use Rattle.offer_model.specs.Assortments.{offers, sum_below}
+use Rattle.offer_model.specs.Assortments.{offers}
 use Rattle.offer_model.specs.Problems.{ProblemData, product_count}
 use Rattle.offer_model.specs.Limits.{IsFeasible}
 use Rattle.offer_model.specs.Nodes.{mark_at, Agrees, Completes}
-use Rattle.offer_model.specs.Prices.{Prices, int_sum_below, worth_of, most_of, greatest_worth}
+use Rattle.offer_model.specs.Prices.{Prices, worth_of, most_of, greatest_worth}
 use Rattle.offer_model.specs.LeafBounds.{relaxed, taken_off, added_to, allowed_in_all, taken_by, added_by, allowed_by, priced_limit_at, MultipliersFit, multipliers_bound}
-use Rattle.offer_model.proofs.SumLemmas.{over, sum_moved}
+use Rattle.offer_model.proofs.SumLemmas.{over, sum_moved, sum_below-same, int_sum_below-same}
 use Rattle.offer_model.proofs.CompletionLemmas.{Completes-agrees}
 use Rattle.offer_model.proofs.MultiplierLemmas.{exchanged, sum_split, multipliers_hold}
 use Rattle.linear_step.specs.Answers.{IsGreatest}
@@ -38,33 +38,18 @@ reached Open true (negsuc n) a h k = let l = h refl refl in omega (arith, ints)
 reached Open false (pos n) a h k = let l = k refl refl in omega (arith, ints)
 reached Open false (negsuc n) a h k = refl
 
-int_sum_equal : (n : ℕ) (f g : ℕ → ℤ) → ((i : ℕ) → i < n → f i ≡ g i) → int_sum_below n f ≡ int_sum_below n g
-int_sum_equal zero f g h = refl
-int_sum_equal (suc n) f g h =
-    let before = int_sum_equal n f g (λ i l. h i (omega arith)) in
-    let here = h n (omega arith) in
-    rw (before, here) refl
-
--- Equal terms have equal sums.
-pub sum_equal : (n : ℕ) (f g : ℕ → ℕ) → ((i : ℕ) → i < n → f i ≡ g i) → sum_below n f ≡ sum_below n g
-sum_equal zero f g h = refl
-sum_equal (suc n) f g h =
-    let before = sum_equal n f g (λ i l. h i (omega arith)) in
-    let here = h n (omega arith) in
-    omega arith
-
 -- A completion that follows the prices reaches the node's greatest worth.
 follows_greatest : (p : ProblemData) (node : List Mark) (at : Prices) (x : List Bool) → Completes node x → FollowsPrices p node at.price x
     → worth_of p at x ≡ greatest_worth p node at
 follows_greatest p node at x c f =
-    let e = int_sum_equal (product_count p) (λ i. cond (offers x i) (at.price i) (pos 0)) (λ i. most_of (mark_at node i) (at.price i))
+    let e = int_sum_below-same (product_count p) (λ i. cond (offers x i) (at.price i) (pos 0)) (λ i. most_of (mark_at node i) (at.price i))
     (λ i l. reached (mark_at node i) (offers x i) (at.price i) (Completes-agrees node x c i) (λ m v. f.chosen i l m v) (λ m v. f.left i l m v)) in
     ap (λ z. at.constant +ℤ z) e
 
 -- Multipliers don't change the worth of an assortment that uses up their limits.
 used_up : (p : ProblemData) (us : List ℕ) (at : Prices) (x : List Bool) → UsesUp p us x → worth_of p (relaxed p us at) x ≡ worth_of p at x
 used_up p us at x u =
-    let each = sum_equal (length us) (λ k. over (product_count p) (offers x) (taken_by p (priced_limit_at p k) (slice_index us k)))
+    let each = sum_below-same (length us) (λ k. over (product_count p) (offers x) (taken_by p (priced_limit_at p k) (slice_index us k)))
     (λ k. allowed_by (priced_limit_at p k) (slice_index us k) + over (product_count p) (offers x) (added_by (priced_limit_at p k) (slice_index us k))) u in
     let parts = sum_split (length us) (λ k. allowed_by (priced_limit_at p k) (slice_index us k))
     (λ k. over (product_count p) (offers x) (added_by (priced_limit_at p k) (slice_index us k))) in

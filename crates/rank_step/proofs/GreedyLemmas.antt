@@ -11,13 +11,14 @@ use Rattle.offer_model.specs.declared.node.Mark.TheVariants.{In, Out, Open}
 use Rattle.offer_model.specs.Assortments.{offers}
 use Rattle.offer_model.specs.Problems.{ProblemData, product_count}
 use Rattle.offer_model.specs.Nodes.{mark_at, is_in, fill_of, Agrees}
+use Rattle.offer_model.proofs.NodeLemmas.{offers-fill_of, in_from_fill}
 use Rattle.linear_step.specs.Weights.{price_bound}
 use Rattle.rank_step.specs.declared.candidates.Candidate.{Candidate}
 use Rattle.rank_step.specs.Caps.{PlacesData, category_place, AreCapPlaces}
 use Rattle.rank_step.specs.Rooms.{RoomsData, room_at, cutoff_at, cutoff_of, AreRooms, AreTaken, HasRoom, IsFullCap, IsTaken, HasRefused}
 use Rattle.rank_step.specs.Candidates.{candidate_at, IsCandidate, AreCandidates}
 use Rattle.rank_step.specs.Greedy.{IsFilling, IsPast, IsFilled}
-use Rattle.rank_step.proofs.RoomLemmas.{fill_at, taken_more}
+use Rattle.rank_step.proofs.RoomLemmas.{taken_more}
 
 -- ---- At first.
 
@@ -33,11 +34,8 @@ no_cutoffs cutoffs h k = by_place (cases_lt k (length cutoffs))
     by_place (inl l) = h k l
     by_place (inr l) = get_or_past cutoffs k 0 l
 
-is_open : (m : Mark) → m ≡ Open → is_in m ≡ true → ⊥
-is_open m e h = let h' = rw e at h in cc
-
 not_offered : (node : List Mark) (i : ℕ) → mark_at node i ≡ Open → offers (fill_of node) i ≡ true → ⊥
-not_offered node i e o = is_open (mark_at node i) e (sym (fill_at node i) ∙ o)
+not_offered node i e o = let m = in_from_fill node i o in cc
 
 -- What is In is a filling, before any candidate.
 pub filling_first : (p : ProblemData) (node : List Mark) (price : ℕ → ℤ) (at : PlacesData) (x : List Bool) (rooms : RoomsData) → x ≡ fill_of node
@@ -45,7 +43,7 @@ pub filling_first : (p : ProblemData) (node : List Mark) (price : ℕ → ℤ) (
     → ((k : ℕ) → k < length p.limits → cutoff_at rooms k ≡ 0) → IsFilling p node price at x rooms
 filling_first p node price at x rooms e long are taken none = record {
   each = long;
-  agrees = λ i l. agrees_in (mark_at node i) (offers x i) (rw e (fill_at node i));
+  agrees = λ i l. agrees_in (mark_at node i) (offers x i) (rw e (offers-fill_of node i));
   kept = are;
   taken = rw e taken;
   small = λ k. let z = zero_at k in omega arith;

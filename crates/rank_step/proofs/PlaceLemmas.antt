@@ -1,8 +1,8 @@
 -- The places of the caps among the limits.
-use Rattle.std.specs.Prelude.{◌==◌, ◌⊎◌, Option, Some, None}
-use Rattle.std.proofs.Common.{◌≡◌, ◌≢◌, ℕ, zero, suc, ◌+◌, ◌<◌, Bool, true, false, cond, List, [], ◌∷◌, length, refl, sym, ap, arith, subst, inl, inr, get_or, ◌∙◌}
+use Rattle.std.specs.Prelude.{◌==◌, Option, Some, None}
+use Rattle.std.proofs.Common.{◌≡◌, ◌≢◌, ℕ, zero, suc, ◌+◌, ◌<◌, Bool, true, false, cond, List, [], ◌∷◌, length, refl, sym, ap, arith, subst, get_or, ◌∙◌, below_more}
 use Rattle.std.specs.List.{list_all}
-use Rattle.std.proofs.lemmas.Bool.{cases_eq, and_parts, false_from_ne_true}
+use Rattle.std.proofs.lemmas.Bool.{and_parts, false_from_ne_true}
 use Rattle.std.proofs.lemmas.Bool.Decides.{nat_tests}
 use Rattle.offer_model.specs.declared.products.Limit.{Limit}
 use Rattle.offer_model.specs.declared.products.Limit.TheVariants.{Total, Category, Requires, Shelf, Ladder}
@@ -49,14 +49,6 @@ elsewhere : (place : Option ℕ) (k : ℕ) → IsBelow k place → is_place plac
 elsewhere None k h = refl
 elsewhere (Some a) k h = other k a (omega arith)
 
--- What holds below k and at k holds below k + 1.
-by_last : (P : ℕ → Type 0) (k : ℕ) → ((j : ℕ) → j < k → P j) → P k → (j : ℕ) → j < k + 1 → P j
-by_last P k below here j l = at (cases_eq j k)
-  where
-    at : ((j ≡ k) ⊎ (j ≢ k)) → P j
-    at (inl e) = subst P (sym e) here
-    at (inr ne) = below j (omega arith)
-
 further : (place : Option ℕ) (k : ℕ) → IsBelow k place → IsBelow (k + 1) place
 further None k h = tt
 further (Some a) k h = omega arith
@@ -71,10 +63,10 @@ pub places_with_total : (p : ProblemData) (at : PlacesData) (k cap : ℕ) → Is
     → ArePlacesBelow p k at → ArePlacesBelow p (k + 1) (record { total = Some k; category = at.category })
 places_with_total p at k cap v inside is n = record {
   each = n.each;
-  total_is = by_last (λ j. is_total (limit_at p j) ≡ (j == k)) k
+  total_is = below_more (λ j. is_total (limit_at p j) ≡ (j == k)) k
       (λ j l. never_twice p is_total v two_totals j k l inside (ap is_total is) ∙ sym (other j k (omega arith)))
       (ap is_total is ∙ sym (same k));
-  category_is = λ i j li l. by_last (λ j. is_of_category p (limit_at p j) i ≡ is_place (category_place at i) j) k (λ j l. n.category_is i j li l)
+  category_is = λ i j li l. below_more (λ j. is_of_category p (limit_at p j) i ≡ is_place (category_place at i) j) k (λ j l. n.category_is i j li l)
       (ap (λ t. is_of_category p t i) is ∙ sym (elsewhere (category_place at i) k (n.category_in i li))) j l;
   total_in = omega arith;
   category_in = λ i l. further (category_place at i) k (n.category_in i l);
@@ -87,7 +79,7 @@ pub places_with_category : (p : ProblemData) (at next : PlacesData) (k c cap : �
     → ArePlacesBelow p k at → ArePlacesBelow p (k + 1) next
 places_with_category p at next k c cap v inside is total long put n = record {
   each = long;
-  total_is = rw total (by_last (λ j. is_total (limit_at p j) ≡ is_place at.total j) k n.total_is
+  total_is = rw total (below_more (λ j. is_total (limit_at p j) ≡ is_place at.total j) k n.total_is
       (ap is_total is ∙ sym (elsewhere at.total k n.total_in)));
   category_is = λ i j li l. rw (put i li) (by_category i li ((product_at p i).category == c) refl j l);
   total_in = rw total (further at.total k n.total_in);
@@ -96,10 +88,10 @@ places_with_category p at next k c cap v inside is total long put n = record {
   where
     by_category : (i : ℕ) → i < product_count p → (v : Bool) → ((product_at p i).category == c) ≡ v → (j : ℕ) → j < k + 1
         → is_of_category p (limit_at p j) i ≡ is_place (cond v (Some k) (category_place at i)) j
-    by_category i li true e = by_last (λ j. is_of_category p (limit_at p j) i ≡ (j == k)) k
+    by_category i li true e = below_more (λ j. is_of_category p (limit_at p j) i ≡ (j == k)) k
         (λ j l. never_twice p (λ t. is_of_category p t i) v (two_of_category p i) j k l inside (ap (λ t. is_of_category p t i) is ∙ e) ∙ sym (other j k (omega arith)))
         (ap (λ t. is_of_category p t i) is ∙ e ∙ sym (same k))
-    by_category i li false e = by_last (λ j. is_of_category p (limit_at p j) i ≡ is_place (category_place at i) j) k (λ j l. n.category_is i j li l)
+    by_category i li false e = below_more (λ j. is_of_category p (limit_at p j) i ≡ is_place (category_place at i) j) k (λ j l. n.category_is i j li l)
         (ap (λ t. is_of_category p t i) is ∙ e ∙ sym (elsewhere (category_place at i) k (n.category_in i li)))
 
     inside_by : (i : ℕ) → i < product_count p → (v : Bool) → IsBelow (k + 1) (cond v (Some k) (category_place at i))

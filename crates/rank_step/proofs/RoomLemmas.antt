@@ -1,8 +1,7 @@
 -- Room under the caps of a product.
 use Rattle.std.specs.Prelude.{◌⊎◌, Option, Some, None}
 use Rattle.std.specs.Option.{is_some}
-use Rattle.std.proofs.Common.{◌≡◌, ◌≢◌, ℕ, zero, suc, ◌+◌, ◌<◌, ◌≤◌, Bool, true, false, cond, List, [], ◌∷◌, length, refl, arith, subst, inl, inr, set, get_or-set_same, get_or-set_other, add-one, ◌∙◌}
-use Rattle.std.proofs.lemmas.Bool.{cases_eq}
+use Rattle.std.proofs.Common.{◌≡◌, ℕ, ◌+◌, ◌<◌, ◌≤◌, Bool, true, false, cond, List, length, refl, arith, subst, inl, inr, set, add-one, ◌∙◌}
 use Rattle.std.proofs.lemmas.Bool.Decides.{nat_tests}
 use Rattle.std.proofs.lemmas.List.{get_or_default}
 use Rattle.offer_model.specs.declared.node.Mark.{Mark}
@@ -14,6 +13,8 @@ use Rattle.offer_model.specs.Problems.{ProblemData, product_count}
 use Rattle.offer_model.specs.Validity.{is_cap}
 use Rattle.offer_model.specs.Revenue.{sum_offered}
 use Rattle.offer_model.specs.Nodes.{mark_at, is_in, fill_of, ClashesAt, Clashes}
+use Rattle.offer_model.proofs.NodeLemmas.{offers-fill_of}
+use Rattle.offer_model.proofs.SumLemmas.{sum_below_le, sum_below-set}
 use Rattle.rank_step.specs.Caps.{limit_at, cap_of, is_total, is_of_category, count_of, PlacesData, category_place, is_place, AreCapPlaces}
 use Rattle.rank_step.specs.Rooms.{RoomsData, AreRooms, AreTaken, IsFullCap, IsTaken}
 use Rattle.rank_step.proofs.PlaceLemmas.{caps_at}
@@ -50,20 +51,6 @@ places_apart p at i k places inside l = subst (λ t. t ≤ 1) (counts_at p at i 
 
 -- ---- What is In.
 
--- The fill of a node offers what is In.
-pub fill_at : (node : List Mark) (i : ℕ) → offers (fill_of node) i ≡ is_in (mark_at node i)
-fill_at [] i = refl
-fill_at (m ∷ node) zero = refl
-fill_at (m ∷ node) (suc i) = fill_at node i
-
-sum_below_le : (m n : ℕ) (f : ℕ → ℕ) → m ≤ n → sum_below m f ≤ sum_below n f
-sum_below_le m zero f l = let e : m ≡ 0 = omega arith in rw e (omega arith)
-sum_below_le m (suc n) f l = by_place (λ h. sum_below_le m n f h) (cases_eq m (suc n))
-  where
-    by_place : (m ≤ n → sum_below m f ≤ sum_below n f) → ((m ≡ suc n) ⊎ (m ≢ suc n)) → sum_below m f ≤ sum_below (suc n) f
-    by_place before (inl e) = rw e (omega arith)
-    by_place before (inr ne) = let b = before (omega arith) in omega arith
-
 -- What is In counts more than the cap allows.
 over_cap : (p : ProblemData) (node : List Mark) (limit : Limit) → is_cap limit ≡ true
     → cap_of limit < sum_offered p (fill_of node) (count_of p limit) → ClashesAt p node limit
@@ -93,7 +80,7 @@ sum_last n f = rw add-one refl
 sum_in : (node : List Mark) (i : ℕ) (f : ℕ → ℕ) → mark_at node i ≡ In
     → sum_below (i + 1) (λ j. cond (offers (fill_of node) j) (f j) 0) ≡ sum_below i (λ j. cond (offers (fill_of node) j) (f j) 0) + f i
 sum_in node i f e = sum_last i (λ j. cond (offers (fill_of node) j) (f j) 0)
-    ∙ rw (fill_at node i, e) refl
+    ∙ rw (offers-fill_of node i, e) refl
 
 full_at : (p : ProblemData) (node : List Mark) (at : PlacesData) (rooms : RoomsData) (i k : ℕ) → AreCapPlaces p at → i < product_count p
     → mark_at node i ≡ In → AreRooms p rooms → AreTaken p (fill_of node) i rooms → IsFullCap rooms at i (Some k) → Clashes p node
@@ -129,28 +116,6 @@ taken_in p node at rooms next i places inside is_in are less taken k l =
 
 -- ---- What is added.
 
-sum_before : (n : ℕ) (x : List Bool) (i : ℕ) (f : ℕ → ℕ) → n ≤ i
-    → sum_below n (λ j. cond (offers (set x i true) j) (f j) 0) ≡ sum_below n (λ j. cond (offers x j) (f j) 0)
-sum_before zero x i f l = refl
-sum_before (suc n) x i f l =
-    let before = sum_before n x i f (omega arith) in
-    let ne : n ≢ i = omega arith in
-    rw (before, get_or-set_other x i n true false ne) refl
-
--- A product that comes to be offered adds what it counts.
-sum_added : (n : ℕ) (x : List Bool) (i : ℕ) (f : ℕ → ℕ) → i < n → i < length x → offers x i ≡ false
-    → sum_below n (λ j. cond (offers (set x i true) j) (f j) 0) ≡ sum_below n (λ j. cond (offers x j) (f j) 0) + f i
-sum_added zero x i f l m o = absurd (omega arith)
-sum_added (suc n) x i f l m o = by_place (λ l. sum_added n x i f l m o) (cases_eq n i)
-  where
-    by_place : (i < n → sum_below n (λ j. cond (offers (set x i true) j) (f j) 0) ≡ sum_below n (λ j. cond (offers x j) (f j) 0) + f i)
-        → ((n ≡ i) ⊎ (n ≢ i))
-        → sum_below (suc n) (λ j. cond (offers (set x i true) j) (f j) 0) ≡ sum_below (suc n) (λ j. cond (offers x j) (f j) 0) + f i
-    by_place before (inl e) = rw (e, sum_before i x i f (omega arith), get_or-set_same x i true false m, o) (omega arith)
-    by_place before (inr ne) =
-        let b = before (omega arith) in
-        rw (get_or-set_other x i n true false ne) (omega arith)
-
 -- One more product takes its room.
 pub taken_more : (p : ProblemData) (at : PlacesData) (x : List Bool) (rooms next : RoomsData) (i : ℕ) → AreCapPlaces p at → length x ≡ product_count p
     → i < product_count p → offers x i ≡ false → AreRooms p rooms → IsTaken rooms at i next
@@ -160,5 +125,5 @@ taken_more p at x rooms next i places long inside o are less taken k l =
     let left = taken k l in
     let room = less.left k (omega arith) in
     let count = counts_at p at i k places inside l in
-    let sum = sum_added (product_count p) x i (count_of p (limit_at p k)) inside (omega arith) o in
+    let sum = sum_below-set (product_count p) x i (count_of p (limit_at p k)) inside (omega arith) o in
     omega arith

@@ -1,6 +1,7 @@
 use Rattle.std.proofs.Common.{rules}
 use Rattle.linear_step.specs.Weights.{prices_of}
-use Rattle.rank_step.proofs.CutoffLemmas.{filled_greatest, clash_has_none}
+use Rattle.linear_step.proofs.CallerLemmas.{clash_has_none}
+use Rattle.rank_step.proofs.CutoffLemmas.{filled_greatest}
 use Rattle.rank_step.proofs.caps.CapsStepStep.best.Goals as goal
 
 pub returns-then-not-fill-clause-answer : goal.returns-then-not-fill-clause-answer
