@@ -3,7 +3,8 @@ use Rattle.std.proofs.Common.{◌≡◌, ℕ, Bool, true, false, cond, List, len
 use Rattle.std.specs.Prelude.{pos, negsuc, ◌-ℤ◌, ◌≤ℤ◌, slice_index}
 use Rattle.std.proofs.lemmas.Int.{ints}
 use lib.IntN.{ℤ}
-use Rattle.offer_model.proofs.SumLemmas.{sum_mono}
+use Rattle.offer_model.proofs.SumLemmas.{sum_mono, int_sum_below-same, int_sum_below-zeros}
+use Rattle.offer_model.proofs.CompletionLemmas.{worth_at}
 use Rattle.offer_model.specs.declared.node.Mark.{Mark}
 use Rattle.offer_model.specs.declared.node.Mark.TheVariants.{In, Out, Open}
 use Rattle.offer_model.specs.Prices.{most_of}
@@ -11,17 +12,7 @@ use Rattle.offer_model.specs.Nodes.{mark_at, Agrees}
 use Rattle.cut_step.specs.declared.rows.Row.{Row}
 use Rattle.cut_step.specs.Closures.{first_of, second_of, IsClosure, price_at, sum_over}
 use Rattle.cut_step.specs.Flows.{IsBalanced, IsSettled, IsCertified, bound}
-use Rattle.cut_step.proofs.TotalLemmas.{sum_same, sum_zero, sum_none}
-
-term : (m : Mark) (b : Bool) (z : ℤ) → Agrees m b → cond b z (pos 0) ≤ℤ most_of m z
-term In true z a = omega (arith, ints)
-term In false z a = cc
-term Out true z a = cc
-term Out false z a = omega (arith, ints)
-term Open true (pos n) a = omega (arith, ints)
-term Open true (negsuc n) a = omega (arith, ints)
-term Open false (pos n) a = omega (arith, ints)
-term Open false (negsuc n) a = omega (arith, ints)
+use Rattle.cut_step.proofs.TotalLemmas.{sum_none}
 
 exact : (m : Mark) (b : Bool) (z : ℤ) → IsSettled m b z → cond b z (pos 0) ≡ most_of m z
 exact In true z a = refl
@@ -63,9 +54,9 @@ pub certified_bound : (rows : List Row) (node : List Mark) (w r : List ℤ) (f :
     → sum_over (length w) s (price_at w) ≡ bound node (length w) (price_at r)
 certified_bound rows node w r f s e c =
     let balance = c.balanced.is s in
-    let none = sum_zero (length rows) (λ k. cond (s (second_of rows k)) (pos (slice_index f k)) (pos 0) -ℤ cond (s (first_of rows k)) (pos (slice_index f k)) (pos 0))
+    let none = int_sum_below-zeros (length rows) (λ k. cond (s (second_of rows k)) (pos (slice_index f k)) (pos 0) -ℤ cond (s (first_of rows k)) (pos (slice_index f k)) (pos 0))
     (λ k l. even (s (first_of rows k)) (s (second_of rows k)) (slice_index f k) (c.keeps k l) (c.tight k l)) in
-    let same = sum_same (length w) (λ i. cond (s i) (price_at r i) (pos 0)) (λ i. most_of (mark_at node i) (price_at r i)) (λ i l. exact (mark_at node i) (s i) (price_at r i) (c.settled i l)) in
+    let same = int_sum_below-same (length w) (λ i. cond (s i) (price_at r i) (pos 0)) (λ i. most_of (mark_at node i) (price_at r i)) (λ i l. exact (mark_at node i) (s i) (price_at r i) (c.settled i l)) in
     omega (arith, ints, balance, none, same)
 
 -- No closed set that agrees with the node has a total above the bound at what is left: rows bring it nothing less than 0.
@@ -75,7 +66,7 @@ fits_bounded rows node w r f y e b h =
     let balance = b.is y in
     let some = sum_none (length rows) (λ k. cond (y (second_of rows k)) (pos (slice_index f k)) (pos 0) -ℤ cond (y (first_of rows k)) (pos (slice_index f k)) (pos 0))
     (λ k l. brought (y (first_of rows k)) (y (second_of rows k)) (slice_index f k) (h.keeps k l)) in
-    let below = sum_mono (length w) (λ i. cond (y i) (price_at r i) (pos 0)) (λ i. most_of (mark_at node i) (price_at r i)) (λ i l. term (mark_at node i) (y i) (price_at r i) (h.agrees i (omega arith))) in
+    let below = sum_mono (length w) (λ i. cond (y i) (price_at r i) (pos 0)) (λ i. most_of (mark_at node i) (price_at r i)) (λ i l. worth_at (mark_at node i) (y i) (price_at r i) (h.agrees i (omega arith))) in
     omega (arith, ints, balance, some, below)
 
 -- So no closed set has a greater total than a certified one.

@@ -21,6 +21,7 @@ use Rattle.linear_step.proofs.CallerLemmas.{Closes-from_bound, HasShape-at}
 use Rattle.offer_model.specs.declared.node.Mark.{Mark}
 use Rattle.offer_model.specs.Assortments.{offers}
 use Rattle.offer_model.specs.Nodes.{Clashes}
+use Rattle.offer_model.proofs.SumLemmas.{int_sum_below-same}
 use Rattle.cut_step.specs.declared.rows.Row.{Row}
 use Rattle.cut_step.specs.declared.reach.Spot.{Spot}
 use Rattle.cut_step.specs.declared.reach.Spot.TheVariants.{Free}
@@ -33,7 +34,6 @@ use Rattle.cut_step.specs.Phases.{IsImpossible, IsSolved, IsDone}
 use Rattle.cut_step.proofs.CertificateLemmas.{certified_bound}
 use Rattle.cut_step.proofs.ClosingLemmas.{solved_greatest, greatest_same}
 use Rattle.cut_step.proofs.ProblemLemmas.{rows_named, worth_total, closure_greatest, none_feasible, amounts_fit, bound_excess}
-use Rattle.cut_step.proofs.TotalLemmas.{sum_same}
 
 -- The assortment of what was reached.
 word_offers : (spots : List Spot) (i : ℕ) → offers (map is_seen spots) i ≡ seen spots i
@@ -49,7 +49,7 @@ solved_top p node w r us spots c ln lw s =
     let long : length x ≡ product_count p = length-map spots is_seen ∙ s.spots_each ∙ lw in
     let whole = bound_excess p node w r us c lw s.rows_each s.certified.balanced in
     let full = certified_bound (rows_of p.limits) node w.items r us (seen spots) e s.certified in
-    let same = sum_same (length w.items) (λ i. cond (offers x i) (price_at w.items i) (pos 0)) (λ i. cond (seen spots i) (price_at w.items i) (pos 0))
+    let same = int_sum_below-same (length w.items) (λ i. cond (offers x i) (price_at w.items i) (pos 0)) (λ i. cond (seen spots i) (price_at w.items i) (pos 0))
     (λ i l. ap (λ (b : Bool). cond b (price_at w.items i) (pos 0)) (word_offers spots i)) in
     let worth = worth_total p w x lw in
     inl (x, closure_greatest p node w x c ln lw long great, omega (arith, ints, whole, full, same, worth))

@@ -7,6 +7,7 @@ use Rattle.offer_model.specs.declared.node.Mark.{Mark}
 use Rattle.offer_model.specs.Assortments.{sum_below}
 use Rattle.offer_model.specs.Prices.{int_sum_below}
 use Rattle.offer_model.specs.Nodes.{mark_at, Agrees}
+use Rattle.offer_model.proofs.SumLemmas.{int_sum_below-same}
 use Rattle.cut_step.specs.declared.rows.Row.{Row}
 use Rattle.cut_step.specs.declared.reach.Spot.{Spot}
 use Rattle.cut_step.specs.Closures.{first_of, second_of, price_at, IsGreatestClosure}
@@ -14,7 +15,7 @@ use Rattle.cut_step.specs.Flows.{IsBalanced}
 use Rattle.cut_step.specs.Searches.{seen}
 use Rattle.cut_step.specs.Phases.{IsSolved}
 use Rattle.cut_step.proofs.CertificateLemmas.{certified_fits, certified_greatest}
-use Rattle.cut_step.proofs.TotalLemmas.{sum_same, sum_pick}
+use Rattle.cut_step.proofs.TotalLemmas.{sum_pick}
 
 -- What the amounts bring to a set and take from it, as two sums.
 parts : (m : ℕ) (p q : ℕ → Bool) (f : ℕ → ℕ) → int_sum_below m (λ k. cond (q k) (pos (f k)) (pos 0) -ℤ cond (p k) (pos (f k)) (pos 0))
@@ -58,7 +59,7 @@ greatest_same rows node w s t e g = record {
     agrees = λ i l. subst (λ (b : Bool). Agrees (mark_at node i) b) (sym (e i)) (g.closed.agrees i l);
   };
   most = λ y h.
-      let same = sum_same (length w) (λ i. cond (t i) (price_at w i) (pos 0)) (λ i. cond (s i) (price_at w i) (pos 0)) (λ i l. ap (λ (b : Bool). cond b (price_at w i) (pos 0)) (e i)) in
+      let same = int_sum_below-same (length w) (λ i. cond (t i) (price_at w i) (pos 0)) (λ i. cond (s i) (price_at w i) (pos 0)) (λ i l. ap (λ (b : Bool). cond b (price_at w i) (pos 0)) (e i)) in
       let m = g.most y h in
       omega (arith, ints, same, m);
 }

@@ -1,5 +1,5 @@
 -- A search tree with one more entry.
-use Rattle.std.proofs.Common.{◌≡◌, ℕ, Bool, true, false, cond, List, [], ◌∷◌, ◌++◌, length, refl, arith, suc, zero, ◌<◌, ◌≤◌, ◌+◌, ◌-◌, set, eqb, inl, inr, ap, sym, subst, ◌∙◌, ◌≢◌, get_or-set_other, get_or-set_same, length-set, length-append, below_more}
+use Rattle.std.proofs.Common.{◌≡◌, ℕ, Bool, true, false, cond, List, [], ◌∷◌, ◌++◌, length, refl, arith, ◌<◌, ◌≤◌, ◌+◌, ◌-◌, set, eqb, inl, inr, ap, sym, subst, ◌∙◌, ◌≢◌, get_or-set_other, get_or-set_same, length-set, length-append, below_more}
 use Rattle.std.specs.Prelude.{pos, negsuc, slice_index, ◌⊎◌, None}
 use Rattle.std.proofs.lemmas.Bool.{cases_eq}
 use Rattle.std.proofs.lemmas.Bool.Decides.{eqb_tells}
@@ -7,8 +7,8 @@ use lib.IntN.{ℤ}
 use Rattle.std.proofs.lemmas.List.{get_or_append_left, get_or_push}
 use Rattle.offer_model.specs.declared.node.Mark.{Mark}
 use Rattle.offer_model.specs.declared.node.Mark.TheVariants.{In, Out, Open}
-use Rattle.offer_model.specs.Assortments.{sum_below}
 use Rattle.offer_model.specs.Nodes.{mark_at}
+use Rattle.offer_model.proofs.SumLemmas.{sum_below-zeros}
 use Rattle.cut_step.specs.declared.rows.Row.{Row}
 use Rattle.cut_step.specs.declared.phase.Phase.{Phase}
 use Rattle.cut_step.specs.declared.phase.Phase.TheVariants.{Forced, Funded}
@@ -284,10 +284,6 @@ spent_shut rows node phase f r spots tree s all k l = record {
     back Kept some e h = ap is_seen (s.kept_back k l some e)
     back (At p) some e h = let t = s.there (second_of rows k) p e in (all p t.0 k l).back some (sym t.1)
 
-none_more : (n : ℕ) → sum_below n (λ i. 0) ≡ 0
-none_more zero = refl
-none_more (suc n) = let before = none_more n in omega (arith, before)
-
 one_here : (i c : ℕ) (b : Bool) → (i ≡ c → b ≡ false) → 0 + cond (eqb i c) 1 0 ≤ cond b 0 1
 one_here i c true h = elim (eqb_tells i c) as (λ v. 0 + cond (eqb i c) 1 0 ≤ 0)
     [ inl t ↦ let e = h t.1 in absurd (cc) | inr f ↦ rw f.0 (omega arith) ]
@@ -300,6 +296,6 @@ pub room_left : (rows : List Row) (node : List Mark) (phase : Phase) (f : List �
 room_left rows node phase f r spots tree i s l free =
     let some = sum_less (length spots) (λ j. 0) (λ j. cond (seen spots j) 0 1) i 1 l
     (λ j lj. one_here j i (seen spots j) (λ q. subst (λ (x : ℕ). seen spots x ≡ false) (sym q) (ap is_seen free))) in
-    let none = none_more (length spots) in
+    let none = sum_below-zeros (length spots) (λ j. 0) (λ j lj. refl) in
     let fewer = s.fewer in
     omega (arith, some, none, fewer)

@@ -4,10 +4,11 @@ use Rattle.std.specs.Prelude.{pos, ◌+ℤ◌, ◌-ℤ◌, slice_index}
 use Rattle.std.proofs.lemmas.Int.{ints}
 use Rattle.std.proofs.lemmas.Bool.Decides.{eqb_tells}
 use lib.IntN.{ℤ}
+use Rattle.offer_model.proofs.SumLemmas.{int_sum_below-add}
 use Rattle.cut_step.specs.declared.rows.Row.{Row}
 use Rattle.cut_step.specs.Closures.{first_of, second_of, price_at, sum_over}
 use Rattle.cut_step.specs.Flows.{moved, IsBalanced, at, Carried, source_of, target_of}
-use Rattle.cut_step.proofs.TotalLemmas.{sum_adds, at_same, at_other, sum_at}
+use Rattle.cut_step.proofs.TotalLemmas.{at_same, at_other, sum_at}
 
 -- What is carried, as a set sees it.
 at_over : (y : ℕ → Bool) (i a : ℕ) (z : ℤ) → cond (y i) (at i a z) (pos 0) ≡ at i a (cond (y a) z (pos 0))
@@ -26,9 +27,9 @@ pub over_carried : (n : ℕ) (y : ℕ → Bool) (r r' : List ℤ) (a b d : ℕ) 
 over_carried n y r r' a b d c la lb =
     let P : ℕ → ℤ = λ i. cond (y i) (at i b (pos d)) (pos 0) in
     let Q : ℕ → ℤ = λ i. cond (y i) (at i a (pos d)) (pos 0) in
-    let whole = sum_adds n (λ i. cond (y i) (price_at r' i) (pos 0)) (λ i. cond (y i) (price_at r i) (pos 0)) (λ i. P i -ℤ Q i)
+    let whole = int_sum_below-add n (λ i. cond (y i) (price_at r' i) (pos 0)) (λ i. cond (y i) (price_at r i) (pos 0)) (λ i. P i -ℤ Q i)
     (λ i l. cond_adds (y i) (price_at r' i) (price_at r i) (at i a (pos d)) (at i b (pos d)) (c.is i)) in
-    let parts = sum_adds n (λ i. at i b (cond (y b) (pos d) (pos 0))) (λ i. P i -ℤ Q i) (λ i. at i a (cond (y a) (pos d) (pos 0)))
+    let parts = int_sum_below-add n (λ i. at i b (cond (y b) (pos d) (pos 0))) (λ i. P i -ℤ Q i) (λ i. at i a (cond (y a) (pos d) (pos 0)))
     (λ i l. let p = at_over y i b (pos d) in let q = at_over y i a (pos d) in omega (arith, ints, p, q)) in
     let up = sum_at n b (cond (y b) (pos d) (pos 0)) lb in
     let down = sum_at n a (cond (y a) (pos d) (pos 0)) la in
@@ -62,7 +63,7 @@ moved_changed : (rows : List Row) (y : ℕ → Bool) (f : List ℕ) (k d : ℕ) 
 moved_changed rows y f k d back l e h =
     let new : ℕ = cond back (get_or f k 0 - d) (get_or f k 0 + d) in
     let z : ℤ = cond (y (target_of rows k back)) (pos d) (pos 0) -ℤ cond (y (source_of rows k back)) (pos d) (pos 0) in
-    let whole = sum_adds (length rows)
+    let whole = int_sum_below-add (length rows)
     (λ j. cond (y (second_of rows j)) (pos (get_or (set f k new) j 0)) (pos 0) -ℤ cond (y (first_of rows j)) (pos (get_or (set f k new) j 0)) (pos 0))
     (λ j. cond (y (second_of rows j)) (pos (get_or f j 0)) (pos 0) -ℤ cond (y (first_of rows j)) (pos (get_or f j 0)) (pos 0))
     (λ j. at j k z)

@@ -6,7 +6,7 @@ use Rattle.std.proofs.lemmas.Int.{ints}
 use Rattle.std.proofs.lemmas.Bool.Decides.{nat_tests}
 use lib.IntN.{ℤ}
 use Rattle.linear_step.specs.Weights.{constant_bound}
-use Rattle.offer_model.proofs.SumLemmas.{sum_mono}
+use Rattle.offer_model.proofs.SumLemmas.{sum_mono, int_sum_below-add}
 use Rattle.offer_model.specs.declared.node.Mark.{Mark}
 use Rattle.offer_model.specs.declared.node.Mark.TheVariants.{In, Out, Open}
 use Rattle.offer_model.specs.Prices.{most_of}
@@ -23,7 +23,7 @@ use Rattle.cut_step.specs.Phases.{AreSmall, IsImpossible}
 use Rattle.cut_step.proofs.FallLemmas.{abs_bounds, at_cases}
 use Rattle.cut_step.proofs.ForcedLemmas.{none_back, roots_in, reached, true_false}
 use Rattle.cut_step.proofs.StartLemmas.{few_times, flowing_start}
-use Rattle.cut_step.proofs.TotalLemmas.{sum_adds, at_other, sum_at, sum_small, pos_sum}
+use Rattle.cut_step.proofs.TotalLemmas.{at_other, sum_at, sum_small, pos_sum}
 
 takes_only : (m : Mark) (z : ℤ) → takes Forced m z ≡ true → m ≡ Out
 takes_only In z h = cc
@@ -66,7 +66,7 @@ path_term node w r s t d i c ms mt = elim (at_cases i s t d (price_at w i) (pric
 path_below : (node : List Mark) (w r : List ℤ) (s t : ℕ) → AreSmall w → s < length w → Carried w r s t (2 ^ 108) → mark_at node s ≡ In → mark_at node t ≡ Out → (bound node (length w) (price_at r) +ℤ pos constant_bound) ≤ℤ pos 0
 path_below node w r s t small l c ms mt =
     let each = sum_mono (length w) (λ i. most_of (mark_at node i) (price_at r i) +ℤ at i s (pos (2 ^ 108))) (λ i. pos (unsigned_abs (price_at w i))) (λ i l. path_term node w r s t (2 ^ 108) i c ms mt) in
-    let parts = sum_adds (length w) (λ i. most_of (mark_at node i) (price_at r i) +ℤ at i s (pos (2 ^ 108))) (λ i. most_of (mark_at node i) (price_at r i)) (λ i. at i s (pos (2 ^ 108))) (λ i l. refl) in
+    let parts = int_sum_below-add (length w) (λ i. most_of (mark_at node i) (price_at r i) +ℤ at i s (pos (2 ^ 108))) (λ i. most_of (mark_at node i) (price_at r i)) (λ i. at i s (pos (2 ^ 108))) (λ i l. refl) in
     let one = sum_at (length w) s (pos (2 ^ 108)) l in
     let whole = pos_sum (length w) (λ i. unsigned_abs (price_at w i)) in
     let most = sum_small (length w) (2 ^ 98) (λ i. unsigned_abs (price_at w i)) (λ i l. small.each i) in

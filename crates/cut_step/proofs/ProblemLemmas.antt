@@ -18,12 +18,12 @@ use Rattle.offer_model.specs.declared.node.Mark.{Mark}
 use Rattle.offer_model.specs.Assortments.{sum_below, offers}
 use Rattle.offer_model.specs.Prices.{int_sum_below, most_of, worth_of}
 use Rattle.offer_model.specs.Nodes.{mark_at, Completes}
+use Rattle.offer_model.proofs.SumLemmas.{int_sum_below-same, sum_below-same, sum_below-zeros}
 use Rattle.cut_step.specs.declared.rows.Row.{Row}
 use Rattle.cut_step.specs.Closures.{rows_of, first_of, second_of, AreNamed, Keeps, IsClosure, HasNoClosure, price_at, sum_over, total_of, IsGreatestClosure}
 use Rattle.cut_step.specs.Flows.{IsBalanced, bound}
 use Rattle.cut_step.specs.Trees.{cap}
 use Rattle.cut_step.proofs.ClosingLemmas.{left_priced}
-use Rattle.cut_step.proofs.TotalLemmas.{sum_same}
 
 -- ---- The rows.
 
@@ -126,20 +126,6 @@ priced_row : (p : ProblemData) → list_all is_requires p.limits ≡ true → (k
     → priced_limit_at p k ≡ Requires (first_of (rows_of p.limits) k) (second_of (rows_of p.limits) k)
 priced_row p c k l = ap (λ (x : List Limit). get_or x k (Ladder 0)) (filter_same p.limits c) ∙ limit_row p.limits c k l
 
-nat_same : (n : ℕ) (f g : ℕ → ℕ) → ((i : ℕ) → i < n → f i ≡ g i) → sum_below n f ≡ sum_below n g
-nat_same zero f g h = refl
-nat_same (suc n) f g h =
-    let before = nat_same n f g (λ i l. h i (omega arith)) in
-    let here = h n (omega arith) in
-    omega (arith, before, here)
-
-nat_none : (n : ℕ) (f : ℕ → ℕ) → ((i : ℕ) → i < n → f i ≡ 0) → sum_below n f ≡ 0
-nat_none zero f h = refl
-nat_none (suc n) f h =
-    let before = nat_none n f (λ i l. h i (omega arith)) in
-    let here = h n (omega arith) in
-    omega (arith, before, here)
-
 price_same : (z a b : ℤ) (m n k l : ℕ) → z ≡ ((a +ℤ pos m) -ℤ pos k) → a ≡ b → m ≡ n → k ≡ l → z ≡ ((b +ℤ pos n) -ℤ pos l)
 price_same z a b m n k l h e f g = omega (arith, ints, h, e, f, g)
 
@@ -158,14 +144,14 @@ bound_excess p node w r us c lw e b =
     let rows : List Row = rows_of p.limits in
     let row : (k : ℕ) → k < length us → priced_limit_at p k ≡ Requires (first_of rows k) (second_of rows k) = λ k l.
     priced_row p c k (subst (λ (n : ℕ). k < n) e l) in
-    let none : allowed_in_all p us ≡ 0 = nat_none (length us) (λ k. allowed_by (priced_limit_at p k) (slice_index us k)) (λ k l. ap (λ (m : Limit). allowed_by m (slice_index us k)) (row k l)) in
+    let none : allowed_in_all p us ≡ 0 = sum_below-zeros (length us) (λ k. allowed_by (priced_limit_at p k) (slice_index us k)) (λ k l. ap (λ (m : Limit). allowed_by m (slice_index us k)) (row k l)) in
     let on : (i : ℕ) → sum_below (length rows) (λ k. cond (eqb i (second_of rows k)) (slice_index us k) 0) ≡ added_to p us i = λ i. sym (
-    nat_same (length us) (λ k. added_by (priced_limit_at p k) (slice_index us k) i) (λ k. cond (eqb i (second_of rows k)) (slice_index us k) 0) (λ k l. ap (λ (m : Limit). added_by m (slice_index us k) i) (row k l))
+    sum_below-same (length us) (λ k. added_by (priced_limit_at p k) (slice_index us k) i) (λ k. cond (eqb i (second_of rows k)) (slice_index us k) 0) (λ k l. ap (λ (m : Limit). added_by m (slice_index us k) i) (row k l))
     ∙ ap (λ (n : ℕ). sum_below n (λ k. cond (eqb i (second_of rows k)) (slice_index us k) 0)) e) in
     let off : (i : ℕ) → sum_below (length rows) (λ k. cond (eqb i (first_of rows k)) (slice_index us k) 0) ≡ taken_off p us i = λ i. sym (
-    nat_same (length us) (λ k. taken_by p (priced_limit_at p k) (slice_index us k) i) (λ k. cond (eqb i (first_of rows k)) (slice_index us k) 0) (λ k l. ap (λ (m : Limit). taken_by p m (slice_index us k) i) (row k l))
+    sum_below-same (length us) (λ k. taken_by p (priced_limit_at p k) (slice_index us k) i) (λ k. cond (eqb i (first_of rows k)) (slice_index us k) 0) (λ k l. ap (λ (m : Limit). taken_by p m (slice_index us k) i) (row k l))
     ∙ ap (λ (n : ℕ). sum_below n (λ k. cond (eqb i (first_of rows k)) (slice_index us k) 0)) e) in
-    let sums = sum_same (length w.items) (λ i. most_of (mark_at node i) (price_at r i)) (λ i. most_of (mark_at node i) ((price_at w.items i +ℤ pos (added_to p us i)) -ℤ pos (taken_off p us i)))
+    let sums = int_sum_below-same (length w.items) (λ i. most_of (mark_at node i) (price_at r i)) (λ i. most_of (mark_at node i) ((price_at w.items i +ℤ pos (added_to p us i)) -ℤ pos (taken_off p us i)))
     (λ i l. ap (most_of (mark_at node i)) (price_same (price_at r i) (price_at w.items i) (price_at w.items i) _ (added_to p us i) _ (taken_off p us i)
     (left_priced rows w.items r us i b l) refl (on i) (off i))) in
     let there = ap (λ (n : ℕ). int_sum_below n (λ i. most_of (mark_at node i) ((price_at w.items i +ℤ pos (added_to p us i)) -ℤ pos (taken_off p us i)))) lw in

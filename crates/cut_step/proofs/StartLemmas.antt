@@ -7,6 +7,7 @@ use lib.IntN.{ℤ}
 use Rattle.offer_model.specs.declared.node.Mark.{Mark}
 use Rattle.offer_model.specs.declared.node.Mark.TheVariants.{In, Out, Open}
 use Rattle.offer_model.specs.Nodes.{mark_at}
+use Rattle.offer_model.proofs.SumLemmas.{int_sum_below-zeros}
 use Rattle.cut_step.specs.declared.rows.Row.{Row}
 use Rattle.cut_step.specs.declared.phase.Phase.{Phase}
 use Rattle.cut_step.specs.declared.phase.Phase.TheVariants.{Forced, Funded}
@@ -19,7 +20,7 @@ use Rattle.cut_step.specs.Trees.{entry_at, before, over}
 use Rattle.cut_step.specs.Searches.{spot_at, seen, unseen, supply_of, IsSearched}
 use Rattle.cut_step.specs.Phases.{imbalance, imbalance_of, AreSmall, IsFlowing}
 use Rattle.cut_step.proofs.FallLemmas.{abs_bounds}
-use Rattle.cut_step.proofs.TotalLemmas.{sum_zero, sum_small}
+use Rattle.cut_step.proofs.TotalLemmas.{sum_small}
 
 -- What gives in the second phase is Open, and gives no more than its excess.
 pub supply_open : (m : Mark) (z : ℤ) → 0 < supply_of Funded m z → (m ≡ Open) × (pos (supply_of Funded m z) ≤ℤ z)
@@ -76,7 +77,7 @@ all_small node w s =
     omega (arith, sum, few)
 
 none_moved : (rows : List Row) (f : List ℕ) (y : ℕ → Bool) → ((k : ℕ) → slice_index f k ≡ 0) → moved (length rows) (first_of rows) (second_of rows) (slice_index f) y ≡ pos 0
-none_moved rows f y z = sum_zero (length rows) (λ k. cond (y (second_of rows k)) (pos (slice_index f k)) (pos 0) -ℤ cond (y (first_of rows k)) (pos (slice_index f k)) (pos 0))
+none_moved rows f y z = int_sum_below-zeros (length rows) (λ k. cond (y (second_of rows k)) (pos (slice_index f k)) (pos 0) -ℤ cond (y (first_of rows k)) (pos (slice_index f k)) (pos 0))
     (λ k l. at_zero (y (second_of rows k)) (y (first_of rows k)) (slice_index f k) (z k))
   where
     at_zero : (a b : Bool) (n : ℕ) → n ≡ 0 → (cond a (pos n) (pos 0) -ℤ cond b (pos n) (pos 0)) ≡ pos 0

@@ -6,23 +6,8 @@ use Rattle.std.proofs.lemmas.Bool.Decides.{eqb_tells, nat_tests}
 use lib.IntN.{ℤ}
 use Rattle.offer_model.specs.Assortments.{sum_below}
 use Rattle.offer_model.specs.Prices.{int_sum_below}
+use Rattle.offer_model.proofs.SumLemmas.{int_sum_below-zeros}
 use Rattle.cut_step.specs.Flows.{at}
-
--- Equal terms have equal sums.
-pub sum_same : (n : ℕ) (f g : ℕ → ℤ) → ((i : ℕ) → i < n → f i ≡ g i) → int_sum_below n f ≡ int_sum_below n g
-sum_same zero f g h = refl
-sum_same (suc n) f g h =
-    let before = sum_same n f g (λ i l. h i (omega arith)) in
-    let here = h n (omega arith) in
-    cc
-
--- A sum of zeros is 0.
-pub sum_zero : (n : ℕ) (f : ℕ → ℤ) → ((i : ℕ) → i < n → f i ≡ pos 0) → int_sum_below n f ≡ pos 0
-sum_zero zero f h = refl
-sum_zero (suc n) f h =
-    let before = sum_zero n f (λ i l. h i (omega arith)) in
-    let here = h n (omega arith) in
-    rw (before, here) refl
 
 -- A sum of terms that aren't below 0 isn't below 0.
 pub sum_none : (n : ℕ) (f : ℕ → ℤ) → ((i : ℕ) → i < n → pos 0 ≤ℤ f i) → pos 0 ≤ℤ int_sum_below n f
@@ -31,14 +16,6 @@ sum_none (suc n) f h =
     let before = sum_none n f (λ i l. h i (omega arith)) in
     let here = h n (omega arith) in
     omega (arith, ints)
-
--- The sum of sums is the sum of both.
-pub sum_adds : (n : ℕ) (f g h : ℕ → ℤ) → ((i : ℕ) → i < n → f i ≡ g i +ℤ h i) → int_sum_below n f ≡ int_sum_below n g +ℤ int_sum_below n h
-sum_adds zero f g h e = refl
-sum_adds (suc n) f g h e =
-    let before = sum_adds n f g h (λ i l. e i (omega arith)) in
-    let here = e n (omega arith) in
-    omega (arith, ints, before, here)
 
 -- At its own product the number stands.
 pub at_same : (i : ℕ) (z : ℤ) → at i i z ≡ z
@@ -52,7 +29,7 @@ at_other i a z h = grind (arith, nat_tests)
 pub sum_at : (n a : ℕ) (z : ℤ) → a < n → int_sum_below n (λ i. at i a z) ≡ z
 sum_at zero a z h = absurd (omega arith)
 sum_at (suc n) a z h = elim (eqb_tells n a) as (λ v. int_sum_below n (λ i. at i a z) +ℤ at n a z ≡ z) [
-  | inl t ↦ let none = sum_zero n (λ i. at i a z) (λ i l. at_other i a z (omega (arith, t.1))) in
+  | inl t ↦ let none = int_sum_below-zeros n (λ i. at i a z) (λ i l. at_other i a z (omega (arith, t.1))) in
       let here : at n a z ≡ z = rw (← t.1) (at_same n z) in
       omega (arith, ints, none, here)
   | inr f ↦ let before = sum_at n a z (omega (arith, f.1)) in
@@ -97,7 +74,7 @@ pos_sum (suc n) g = let before = pos_sum n g in omega (arith, ints, before)
 pub sum_pick : (n i : ℕ) (g : ℕ → ℤ) → i < n → int_sum_below n (λ j. cond (eqb i j) (g j) (pos 0)) ≡ g i
 sum_pick zero i g l = absurd (omega arith)
 sum_pick (suc n) i g l = elim (eqb_tells i n) as (λ v. int_sum_below n (λ j. cond (eqb i j) (g j) (pos 0)) +ℤ cond (eqb i n) (g n) (pos 0) ≡ g i) [
-  | inl t ↦ let none = sum_zero n (λ j. cond (eqb i j) (g j) (pos 0)) (λ j lj. at_other i j (g j) (omega (arith, t.1))) in
+  | inl t ↦ let none = int_sum_below-zeros n (λ j. cond (eqb i j) (g j) (pos 0)) (λ j lj. at_other i j (g j) (omega (arith, t.1))) in
       let here : cond (eqb i n) (g n) (pos 0) ≡ g i = subst (λ (x : ℕ). cond (eqb i x) (g x) (pos 0) ≡ g i) t.1 (at_same i (g i)) in
       omega (arith, ints, none, here)
   | inr f ↦ let before = sum_pick n i g (omega (arith, f.1)) in
