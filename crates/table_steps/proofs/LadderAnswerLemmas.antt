@@ -1,28 +1,30 @@
 -- What is chosen is feasible, and is worth the bound of the potentials.
-use Rattle.std.proofs.Common.{◌≡◌, ◌≢◌, ℕ, zero, suc, ◌+◌, ◌<◌, ◌≤◌, Bool, true, false, cond, List, [], ◌∷◌, length, refl, sym, ap, arith, subst, ◌∙◌, inl, inr, All, add-one}
+use Rattle.std.proofs.Common.{◌≡◌, ◌≢◌, ℕ, zero, suc, ◌+◌, ◌<◌, ◌≤◌, Bool, true, false, cond, List, length, refl, sym, ap, arith, subst, ◌∙◌, inl, inr, All, add-one}
 use Rattle.std.specs.Prelude.{pos, negsuc, ◌⊎◌, slice_index}
 use Rattle.std.proofs.lemmas.Int.{ints}
-use Rattle.std.proofs.lemmas.Bool.{cases_eq, cases_lt}
+use Rattle.std.proofs.lemmas.Bool.{cases_eq}
 use Rattle.std.proofs.lemmas.List.{get_or_default}
 use Rattle.std.proofs.lemmas.List.Elements.{All-from_get_or}
 use lib.IntN.{ℤ}
 use Rattle.offer_model.specs.Roomy.{Roomy}
 use Rattle.offer_model.specs.declared.node.Mark.{Mark}
 use Rattle.offer_model.specs.declared.node.Mark.TheVariants.{In, Out, Open}
-use Rattle.offer_model.specs.declared.products.Product.{Product}
 use Rattle.offer_model.specs.declared.products.Limit.TheVariants.{Total}
 use Rattle.offer_model.specs.Assortments.{offers}
 use Rattle.offer_model.specs.Problems.{ProblemData, product_count, product_at}
 use Rattle.offer_model.specs.Limits.{MayStand, KeepsLadder, Meets}
-use Rattle.offer_model.specs.Nodes.{mark_at, is_in, fill_of, Agrees, Clashes}
+use Rattle.offer_model.specs.Nodes.{mark_at, fill_of, Agrees, Clashes}
 use Rattle.offer_model.specs.Prices.{Prices}
 use Rattle.offer_model.specs.LeafBounds.{IsUsable, is_limited, ladder_of, most_beside, potentials_bound}
 use Rattle.offer_model.proofs.CompletionLemmas.{Completes-from_marks, clash_none}
 use Rattle.offer_model.proofs.PotentialLemmas.{potentials_hold}
+use Rattle.offer_model.proofs.NodeLemmas.{offers-fill_of_in}
+use Rattle.offer_model.proofs.SumLemmas.{int_sum_below-same}
+use Rattle.offer_model.proofs.LimitLemmas.{MayStand-stable}
 use Rattle.limit_rules.specs.Broken.{limit_at}
 use Rattle.limit_rules.specs.Kinds.{kind_of}
 use Rattle.limit_rules.specs.declared.kind.Kind.TheVariants as K
-use Rattle.linear_step.specs.Answers.{IsGreatest, HasNone}
+use Rattle.linear_step.specs.Answers.{IsGreatest}
 use Rattle.linear_step.specs.Closings.{number_bound, Closes}
 use Rattle.linear_step.specs.declared.closing.Closing.TheVariants.{Potentials}
 use Rattle.linear_step.proofs.CallerLemmas.{Closes-from_bound, HasShape-at}
@@ -30,7 +32,7 @@ use Rattle.table_steps.specs.LadderRungs.{RungsData, rungs_at}
 use Rattle.table_steps.specs.LadderFits.{AreLadders}
 use Rattle.table_steps.specs.LadderPotentials.{ArePotentials}
 use Rattle.table_steps.specs.LadderChoices.{takes, TakesBeside, IsChain, HasClimbed, IsChosen, IsSolved}
-use Rattle.table_steps.proofs.LadderSumLemmas.{sum_same, tops_sum}
+use Rattle.table_steps.proofs.SumLemmas.{tops_sum}
 use Rattle.table_steps.proofs.LadderLimitLemmas.{ladder_limited, ladders_differ}
 use Rattle.table_steps.proofs.LadderPotentialLemmas.{stand_from_rise, potentials_fit, usable_above_0}
 
@@ -60,7 +62,7 @@ chosen_start p node at ladders us x potentials t = record {
       let usable = usable_above_0 p node at.price us i u (potentials.potentials i l) in
       rw (usable.open_mark, usable.limited) at (t.takes i l);
   chains = λ j l. absurd (omega arith);
-  worth = let s = sum_same (product_count p) (λ i. cond (offers x i) (at.price i) (pos 0))
+  worth = let s = int_sum_below-same (product_count p) (λ i. cond (offers x i) (at.price i) (pos 0))
       (λ i. most_beside (mark_at node i) (is_limited p.limits (ladder_of p i)) (at.price i))
       (λ i l. ap (λ b. cond b (at.price i) (pos 0)) (t.takes i l) ∙ beside_term (mark_at node i) (is_limited p.limits (ladder_of p i)) (at.price i)) in
       omega (arith, ints);
@@ -117,22 +119,10 @@ chosen_more p node at ladders us k x y are potentials l chosen climbed = record 
 
 -- ---- Feasible.
 
-may_stand : (a b : Product) → ((MayStand a b → ⊥) → ⊥) → MayStand a b
-may_stand a b h = (λ e. h (λ m. m.0 e), λ l. cost l (cases_lt b.price a.price))
-  where
-    cost : a.grade < b.grade → ((b.price < a.price) ⊎ (a.price ≤ b.price)) → a.price ≤ b.price
-    cost l (inl d) = absurd (h (λ m. let q = m.1 l in absurd (omega arith)))
-    cost l (inr q) = q
-
-filled_in : (node : List Mark) (i : ℕ) → mark_at node i ≡ In → offers (fill_of node) i ≡ true
-filled_in [] i e = cc
-filled_in (m ∷ node) zero e = ap is_in e
-filled_in (m ∷ node) (suc i) e = filled_in node i e
-
 -- What is In keeps to each ladder, where the node doesn't clash.
 fill_keeps : (p : ProblemData) (node : List Mark) (ladders : List RungsData) (k : ℕ) → AreLadders p ladders → k < length p.limits
     → (Clashes p node → ⊥) → KeepsLadder p (fill_of node) (rungs_at ladders k).ladder
-fill_keeps p node ladders k are l free i j li lj d oi oj ei ej = may_stand (product_at p i) (product_at p j)
+fill_keeps p node ladders k are l free i j li lj d oi oj ei ej = MayStand-stable (product_at p i) (product_at p j)
     (λ off. free (k, limit_at p k, l, get_or_default p.limits k (limit_at p k) (Total 0) l, rw (are.below.named k l) (λ m. off (m i j li lj d oi oj ei ej))))
 
 by_mark : (m : Mark) → (m ≡ In) ⊎ ((m ≡ Out) ⊎ (m ≡ Open))
@@ -163,7 +153,7 @@ module _ (p : ProblemData) (node : List Mark) (at : Prices) (ladders : List Rung
         by_marks (inr (inl m)) n = absurd (out_not i li m oi)
         by_marks (inl m) (inr (inl n)) = absurd (out_not j lj n oj)
         by_marks (inr (inr m)) (inr (inl n)) = absurd (out_not j lj n oj)
-        by_marks (inl m) (inl n) = fill_keeps p node ladders k are l free i j li lj d (filled_in node i m) (filled_in node j n) ei ej
+        by_marks (inl m) (inl n) = fill_keeps p node ladders k are l free i j li lj d (offers-fill_of_in node i m) (offers-fill_of_in node j n) ei ej
         by_marks (inl m) (inr (inr n)) = ((usable j lj n ej oj).fits i li m (ei ∙ sym ej)).1
         by_marks (inr (inr m)) (inl n) = ((usable i li m ei oi).fits j lj n (ej ∙ sym ei)).0
         by_marks (inr (inr m)) (inr (inr n)) = (stand_from_rise (product_at p i) (product_at p j)
@@ -202,7 +192,3 @@ solved_closes p node at us x kind s = Closes-from_bound p at node (Potentials us
     (λ c. clash_none p node x c s.feasible s.completes)
     (s.fit, refl)
     (inl (x, solved_greatest p node at us.items x s, s.worth))
-
--- A node that clashes has no feasible completion.
-pub clash_has_none : (p : ProblemData) (node : List Mark) → Clashes p node → HasNone p node
-clash_has_none p node c y f k = clash_none p node y c f k

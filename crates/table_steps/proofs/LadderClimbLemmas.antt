@@ -2,7 +2,7 @@
 use Rattle.std.proofs.Common.{◌≡◌, ◌≢◌, ℕ, zero, suc, ◌+◌, ◌<◌, ◌≤◌, Bool, true, false, cond, List, length, Option, Some, None, refl, sym, ap, arith, subst, ◌∙◌, inl, inr, eqb}
 use Rattle.std.specs.Prelude.{pos, ◌+ℤ◌, ◌-ℤ◌, ◌⊎◌, slice_index, slice_set}
 use Rattle.std.proofs.lemmas.Int.{ints}
-use Rattle.std.proofs.lemmas.Bool.{cases_eq, eqb-true}
+use Rattle.std.proofs.lemmas.Bool.{cases_eq, eqb-true, false_from_ne_true}
 use Rattle.std.proofs.lemmas.List.{get_or-set_other, length-set}
 use lib.IntN.{ℤ}
 use Rattle.offer_model.specs.declared.products.Product.{Product}
@@ -15,7 +15,7 @@ use Rattle.linear_step.specs.Closings.{number_bound}
 use Rattle.table_steps.specs.LadderRungs.{RungsData, AreRungs}
 use Rattle.table_steps.specs.LadderPotentials.{Follows, IsGreatestAfter, RisesTo, IsAbove, AreSums}
 use Rattle.table_steps.specs.LadderChoices.{IsChain, HasClimbed}
-use Rattle.table_steps.proofs.LadderSumLemmas.{worth_set}
+use Rattle.table_steps.proofs.SumLemmas.{worth_set}
 use Rattle.table_steps.proofs.LadderPotentialLemmas.{rises_where}
 
 -- a is the last of a chain, or rises to it.
@@ -99,10 +99,6 @@ join (Some c) a b (inr r) f =
     let q' = f.1 in
     (omega arith, omega arith)
 
-not_true : (b : Bool) → (b ≡ true → ⊥) → b ≡ false
-not_true true h = absurd (h refl)
-not_true false h = refl
-
 -- The product at place k goes on with the chain: m is then what is missing.
 climb_taken : (p : ProblemData) (at : Prices) (us : List ℕ) (r : RungsData) (k want i m : ℕ) (last : Option Product) (x y : List Bool)
     → AreRungs p r → k < length r.products → slice_index r.products k ≡ i → 0 < want → slice_index us i ≡ want
@@ -129,7 +125,7 @@ climb_taken p at us r k want i m last x y are l here some is follows above sum c
     before j lj oj uj tj = join last (product_at p j) (product_at p i) (c.ends j lj oj uj tj) follows
 
     off : offers y i ≡ false
-    off = not_true (offers y i) (λ t. let r' = before i inside on (omega arith) t in let g = r'.0 in absurd (omega arith))
+    off = false_from_ne_true (offers y i) (λ t. let r' = before i inside on (omega arith) t in let g = r'.0 in absurd (omega arith))
 
     kept : (j : ℕ) → j ≢ i → offers (slice_set y i true) j ≡ true → offers y j ≡ true
     kept j ne t = sym (get_or-set_other y i j true false ne) ∙ t

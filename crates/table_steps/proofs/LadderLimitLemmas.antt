@@ -5,6 +5,7 @@ use Rattle.std.proofs.lemmas.Bool.{cases_eq, eqb-true}
 use Rattle.std.proofs.lemmas.List.{get_or_default, length_push}
 use Rattle.std.proofs.lemmas.Option.{get_or_from_slice_get}
 use Rattle.std.specs.List.{list_all}
+use Rattle.std.proofs.lemmas.Bool.{false_from_ne_true}
 use Rattle.offer_model.specs.declared.products.Limit.{Limit}
 use Rattle.offer_model.specs.declared.products.Limit.TheVariants.{Total, Category, Requires, Shelf, Ladder}
 use Rattle.offer_model.specs.Problems.{ProblemData}
@@ -14,7 +15,7 @@ use Rattle.limit_rules.specs.Broken.{limit_at}
 use Rattle.limit_rules.specs.Kinds.{kind_of}
 use Rattle.limit_rules.specs.declared.kind.Kind.TheVariants as K
 use Rattle.limit_rules.proofs.CallerLemmas.{Ladder-all}
-use Rattle.linear_step.proofs.PushLemmas.{pushed_more}
+use Rattle.offer_model.proofs.ListLemmas.{pushed_more}
 use Rattle.table_steps.specs.LadderRungs.{RungsData, AreRungs, rungs_at}
 use Rattle.table_steps.specs.LadderFits.{named_ladder, AreLaddersBelow, AreLadders}
 
@@ -60,13 +61,9 @@ limited_where (Category c cap ∷ limits) l h = next (Category c cap) limits l (
 limited_where (Shelf space ∷ limits) l h = next (Shelf space) limits l (limited_where limits l h)
 limited_where (Requires a b ∷ limits) l h = next (Requires a b) limits l (limited_where limits l h)
 
-not_true : (b : Bool) → (b ≡ true → ⊥) → b ≡ false
-not_true true h = absurd (h refl)
-not_true false h = refl
-
 -- A ladder that no limit names isn't limited.
 pub limited_none : (limits : List Limit) (l : ℕ) → ((k : ℕ) → k < length limits → slice_index_or limits k (Total 0) ≡ Ladder l → ⊥) → is_limited limits l ≡ false
-limited_none limits l h = not_true (is_limited limits l) (λ t. let w = limited_where limits l t in h w.0 w.1 w.2)
+limited_none limits l h = false_from_ne_true (is_limited limits l) (λ t. let w = limited_where limits l t in h w.0 w.1 w.2)
 
 -- Where all limits are ladders, each is that of the ladder that it names.
 all_named : (limits : List Limit) (k : ℕ) → k < length limits → list_all is_ladder limits ≡ true

@@ -1,17 +1,16 @@
--- A ladder's products, collected and sorted.
-use Rattle.std.proofs.Common.{◌≡◌, ◌≢◌, ℕ, ◌+◌, ◌<◌, List, length, [], ◌∷◌, ◌++◌, ◌∙◌, subst, arith, inl, inr}
-use Rattle.std.specs.Prelude.{◌⊎◌, Some, slice_get, slice_index}
+-- A ladder's products, sorted by grade.
+use Rattle.std.proofs.Common.{◌≡◌, ℕ, ◌<◌, List, length, ◌∙◌, subst, arith}
+use Rattle.std.specs.Prelude.{Some, slice_get, slice_index}
 use Rattle.std.specs.List.{Contains}
 use Rattle.std.specs.List.Sorted.{IsPermutation, IsNonDecreasingBy}
-use Rattle.std.proofs.lemmas.Bool.{cases_eq}
-use Rattle.std.proofs.lemmas.List.{get_or_default, length_push}
+use Rattle.std.proofs.lemmas.List.{get_or_default}
 use Rattle.std.proofs.lemmas.Option.{get_or_from_slice_get}
-use Rattle.std.proofs.lemmas.List.Elements.{All-push, Contains-push, Contains-append_left}
 use Rattle.std.proofs.lemmas.List.Sorted.{All-permutation, Contains-permutation, length_permutation}
 use Rattle.offer_model.specs.declared.products.Product.{Product}
 use Rattle.offer_model.specs.Problems.{ProblemData, product_count, product_at, no_product}
 use Rattle.offer_model.specs.LeafBounds.{ladder_of}
-use Rattle.table_steps.specs.LadderRungs.{Collects, AreRungs}
+use Rattle.limit_rules.specs.LadderProducts.{Collects}
+use Rattle.table_steps.specs.LadderRungs.{AreRungs}
 
 -- A product, as the code reads it.
 pub product_read : (p : ProblemData) (items : List Product) (i : ℕ) (b : Product) → items ≡ p.products → slice_get items i ≡ Some b → product_at p i ≡ b
@@ -19,32 +18,6 @@ product_read p items i b e h = get_or_from_slice_get p.products i b no_product (
 
 abbrev IsOn : ProblemData → ℕ → ℕ → Type 0
 IsOn p ladder i = (i < product_count p) × (ladder_of p i ≡ ladder)
-
--- One more product, which is on the ladder.
-pub collects_more : (p : ProblemData) (ladder n : ℕ) (list : List ℕ) → n < product_count p → ladder_of p n ≡ ladder → Collects p ladder n list
-    → Collects p ladder (n + 1) (list ++ n ∷ [])
-collects_more p ladder n list l on h = record {
-  few = let f = h.few in rw (length_push list n) (omega arith);
-  each = All-push (IsOn p ladder) list n h.each (l, on);
-  all = λ i li e. by_place i li e (cases_eq i n);
-}
-  where
-    by_place : (i : ℕ) → i < n + 1 → ladder_of p i ≡ ladder → ((i ≡ n) ⊎ (i ≢ n)) → Contains (list ++ n ∷ []) i
-    by_place i li e (inl e') = rw e' (Contains-push list n)
-    by_place i li e (inr ne) = Contains-append_left list (n ∷ []) i (h.all i (omega arith) e)
-
--- One more product, which isn't.
-pub collects_same : (p : ProblemData) (ladder n : ℕ) (list : List ℕ) → (ladder_of p n ≡ ladder → ⊥) → Collects p ladder n list
-    → Collects p ladder (n + 1) list
-collects_same p ladder n list off h = record {
-  few = let f = h.few in omega arith;
-  each = h.each;
-  all = λ i li e. by_place i li e (cases_eq i n);
-}
-  where
-    by_place : (i : ℕ) → i < n + 1 → ladder_of p i ≡ ladder → ((i ≡ n) ⊎ (i ≢ n)) → Contains list i
-    by_place i li e (inl e') = absurd (off (rw e' at e))
-    by_place i li e (inr ne) = h.all i (omega arith) e
 
 -- All of a ladder's products, sorted by grade.
 pub rungs_sorted : (p : ProblemData) (ladder n : ℕ) (before list : List ℕ) → n ≡ product_count p → Collects p ladder n before

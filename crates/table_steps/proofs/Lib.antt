@@ -1,6 +1,6 @@
 pub mod ShelfLemmas
 pub mod ShelfStepLemmas
-pub mod LadderSumLemmas
+pub mod SumLemmas
 pub mod LadderLimitLemmas
 pub mod LadderRungLemmas
 pub mod LadderPotentialLemmas

@@ -1,8 +1,8 @@
 -- A table that fits its problem, and a choice that is read off it.
-use Rattle.std.proofs.Common.{◌≡◌, ◌≢◌, ℕ, zero, suc, ◌+◌, ◌-◌, ◌<◌, ◌≤◌, Bool, true, false, cond, List, [], ◌∷◌, length, get_or, set, take, ◌++◌, refl, sym, ap, arith, subst, inl, inr, ◌∙◌, add-one}
+use Rattle.std.proofs.Common.{◌≡◌, ◌≢◌, ℕ, suc, ◌+◌, ◌-◌, ◌<◌, ◌≤◌, Bool, true, false, cond, List, [], ◌∷◌, length, get_or, set, take, ◌++◌, refl, sym, ap, arith, subst, inl, inr, ◌∙◌, add-one}
 use Rattle.std.specs.Prelude.{pos, ◌+ℤ◌, ◌≤ℤ◌, ◌<ℤ◌, ◌⊎◌}
 use Rattle.std.proofs.lemmas.Int.{ints}
-use Rattle.std.proofs.lemmas.List.{get_or-set_same, get_or-set_other, get_or_read, length-set}
+use Rattle.std.proofs.lemmas.List.{get_or-set_other, get_or_read, length-set}
 use Rattle.std.proofs.Math.Seq.{take-append_seam}
 use lib.Signed.{lt_z}
 use Rattle.std.proofs.lemmas.Bool.{cases_eq}
@@ -14,11 +14,13 @@ use Rattle.offer_model.specs.Assortments.{offers, sum_below}
 use Rattle.offer_model.specs.Problems.{ProblemData, product_count}
 use Rattle.offer_model.specs.Revenue.{sum_offered}
 use Rattle.offer_model.specs.Nodes.{mark_at, is_in, fill_of, Agrees}
-use Rattle.offer_model.specs.Prices.{int_sum_below}
+use Rattle.offer_model.proofs.NodeLemmas.{offers-fill_of}
+use Rattle.offer_model.proofs.SumLemmas.{sum_below-set}
 use Rattle.shelf_table.specs.Tables.{TableData, IsTableOf, cell_at, space_of, price_in, best_from, free_prices}
 use Rattle.shelf_table.specs.Rooms.{AreSpaces}
 use Rattle.shelf_table.proofs.RoomLemmas.{spaces_same}
-use Rattle.shelf_table.proofs.CallerLemmas.{best_from-same, best_from-more, best_from-leave, best_from-take, best_from-choice, rest_from, fill_at}
+use Rattle.shelf_table.proofs.CallerLemmas.{best_from-same, best_from-more, best_from-leave, best_from-take, best_from-choice, rest_from}
+use Rattle.table_steps.proofs.SumLemmas.{worth_more}
 use Rattle.table_steps.specs.ShelfFits.{FitsShelf}
 use Rattle.table_steps.specs.ShelfReading.{best_sum, IsRead}
 
@@ -53,60 +55,6 @@ cell_is p shelf spaces prices t node price start f free k room s l r =
     fits_table p shelf spaces prices t f k room (omega arith) (omega arith)
     ∙ ap (λ n. best_from (space_of p) (price_in prices) n k room) a
     ∙ best_from-same (space_of p) (price_in prices) (free_prices node price) (product_count p) k room l (λ i h j. free i (omega arith) j)
-
--- ---- A sum with one product more.
-
-sum_before : (n : ℕ) (x : List Bool) (k : ℕ) (f : ℕ → ℕ) → n ≤ k
-    → sum_below n (λ i. cond (offers (set x k true) i) (f i) 0) ≡ sum_below n (λ i. cond (offers x i) (f i) 0)
-sum_before zero x k f l = refl
-sum_before (suc n) x k f l =
-    let before = sum_before n x k f (omega arith) in
-    let ne : n ≢ k = omega arith in
-    rw (before, get_or-set_other x k n true false ne) refl
-
-sum_more : (n : ℕ) (x : List Bool) (k : ℕ) (f : ℕ → ℕ) → k < n → k < length x → offers x k ≡ false
-    → sum_below n (λ i. cond (offers (set x k true) i) (f i) 0) ≡ sum_below n (λ i. cond (offers x i) (f i) 0) + f k
-sum_more zero x k f l inside out = absurd (omega arith)
-sum_more (suc n) x k f l inside out = by_place (cases_eq k n) (λ h. sum_more n x k f h inside out)
-  where
-    by_place : ((k ≡ n) ⊎ (k ≢ n))
-        → (k < n → sum_below n (λ i. cond (offers (set x k true) i) (f i) 0) ≡ sum_below n (λ i. cond (offers x i) (f i) 0) + f k)
-        → sum_below (suc n) (λ i. cond (offers (set x k true) i) (f i) 0) ≡ sum_below (suc n) (λ i. cond (offers x i) (f i) 0) + f k
-    by_place (inr h) next =
-        let before = next (omega arith) in
-        let ne : n ≢ k = omega arith in
-        rw (before, get_or-set_other x k n true false ne) (omega arith)
-    by_place (inl e) next =
-        let before = sum_before n x k f (omega arith) in
-        let same : offers (set x k true) n ≡ true = rw (← e) (get_or-set_same x k true false inside) in
-        let none : offers x n ≡ false = rw (← e) out in
-        rw (before, same, none, e) (omega arith)
-
-worth_before : (n : ℕ) (x : List Bool) (k : ℕ) (f : ℕ → ℤ) → n ≤ k
-    → int_sum_below n (λ i. cond (offers (set x k true) i) (f i) (pos 0)) ≡ int_sum_below n (λ i. cond (offers x i) (f i) (pos 0))
-worth_before zero x k f l = refl
-worth_before (suc n) x k f l =
-    let before = worth_before n x k f (omega arith) in
-    let ne : n ≢ k = omega arith in
-    rw (before, get_or-set_other x k n true false ne) refl
-
-worth_more : (n : ℕ) (x : List Bool) (k : ℕ) (f : ℕ → ℤ) → k < n → k < length x → offers x k ≡ false
-    → int_sum_below n (λ i. cond (offers (set x k true) i) (f i) (pos 0)) ≡ int_sum_below n (λ i. cond (offers x i) (f i) (pos 0)) +ℤ f k
-worth_more zero x k f l inside out = absurd (omega arith)
-worth_more (suc n) x k f l inside out = by_place (cases_eq k n) (λ h. worth_more n x k f h inside out)
-  where
-    by_place : ((k ≡ n) ⊎ (k ≢ n))
-        → (k < n → int_sum_below n (λ i. cond (offers (set x k true) i) (f i) (pos 0)) ≡ int_sum_below n (λ i. cond (offers x i) (f i) (pos 0)) +ℤ f k)
-        → int_sum_below (suc n) (λ i. cond (offers (set x k true) i) (f i) (pos 0)) ≡ int_sum_below (suc n) (λ i. cond (offers x i) (f i) (pos 0)) +ℤ f k
-    by_place (inr h) next =
-        let before = next (omega arith) in
-        let ne : n ≢ k = omega arith in
-        rw (before, get_or-set_other x k n true false ne) (omega (arith, ints))
-    by_place (inl e) next =
-        let before = worth_before n x k f (omega arith) in
-        let same : offers (set x k true) n ≡ true = rw (← e) (get_or-set_same x k true false inside) in
-        let none : offers x n ≡ false = rw (← e) out in
-        rw (before, same, none, e) (omega (arith, ints))
 
 -- ---- A choice that is read off.
 
@@ -145,8 +93,8 @@ pub read_start : (space : ℕ → ℕ) (n : ℕ) (node : List Mark) (price : ℕ
     → IsRead space n node price shelf (best_sum space n node price room) 0 (fill_of node) room
 read_start space n node price shelf room long fits = record {
   each = long;
-  agrees = λ i l. agrees (mark_at node i) (offers (fill_of node) i) (fill_at node i);
-  ahead = λ i l h. fill_at node i;
+  agrees = λ i l. agrees (mark_at node i) (offers (fill_of node) i) (offers-fill_of node i);
+  ahead = λ i l h. offers-fill_of node i;
   fits = fits;
   sum = refl;
 }
@@ -208,7 +156,7 @@ read_take space n node price shelf z k x room l more r =
           each = length-set x k true ∙ r.each;
           agrees = λ i h. by_place i h inside is_open (cases_eq i k);
           ahead = λ i h j. let ne : i ≢ k = omega arith in get_or-set_other x k i true false ne ∙ r.ahead i (omega arith) j;
-          fits = let s = sum_more n x k space l inside out in let f = r.fits in omega arith;
+          fits = let s = sum_below-set n x k space l inside out in let f = r.fits in omega arith;
           sum =
               let s = worth_more n x k price l inside out in
               let free : free_prices node price k ≡ price k = rw is_open refl in

@@ -1,7 +1,6 @@
 -- A choice that is read off to the end is greatest, and its weight is the bound of the table.
 use Rattle.std.proofs.Common.{◌≡◌, ℕ, zero, suc, ◌+◌, ◌-◌, ◌<◌, Bool, List, [], ◌∷◌, length, refl, sym, ap, arith, subst, inl, ◌∙◌, All}
 use Rattle.std.specs.Prelude.{Some, ◌+ℤ◌}
-use Rattle.std.proofs.Math.ListN.{length-map}
 use Rattle.std.proofs.lemmas.Int.{ints, by_lt_z}
 use lib.IntN.{ℤ}
 use Rattle.offer_model.specs.declared.node.Mark.{Mark}
@@ -15,6 +14,7 @@ use Rattle.offer_model.specs.Prices.{Prices, worth_of}
 use Rattle.offer_model.specs.LeafBounds.{shelf_space, shelf_bound}
 use Rattle.offer_model.proofs.CompletionLemmas.{Completes-from_marks, clash_none}
 use Rattle.offer_model.proofs.ShelfLemmas.{shelf_holds}
+use Rattle.offer_model.proofs.NodeLemmas.{length-fill_of}
 use Rattle.limit_rules.specs.Kinds.{kind_of}
 use Rattle.linear_step.specs.Answers.{IsGreatest, HasNone}
 use Rattle.linear_step.specs.Closings.{HasShape, Closes}
@@ -72,9 +72,6 @@ read_on space n node price shelf z (suc m) k e x room r =
     (λ h. read_on space n node price shelf z m (suc k) (omega arith) _ _ (read_take space n node price shelf z k x room (omega arith) h r))
     (λ h. read_on space n node price shelf z m (suc k) (omega arith) _ _ (read_leave space n node price shelf z k x room (omega arith) h r))
 
-fill_long : (node : List Mark) → length (fill_of node) ≡ length node
-fill_long node = simp length-map
-
 clash_is : (p : ProblemData) (node : List Mark) (shelf : ℕ) → p.limits ≡ Shelf shelf ∷ [] → shelf < sum_offered p (fill_of node) (space_of p) → Clashes p node
 clash_is p node shelf one over = rw one (0, Shelf shelf, omega arith, refl, λ m. absurd (omega arith))
 
@@ -97,7 +94,7 @@ fits_closes p node at shelf room one long fits =
   where
     read : (y : List Bool) × ((left : ℕ) × IsRead (space_of p) (product_count p) node at.price shelf (best_sum (space_of p) (product_count p) node at.price room) (product_count p) y left)
     read = read_on (space_of p) (product_count p) node at.price shelf (best_sum (space_of p) (product_count p) node at.price room) (product_count p) 0 (omega arith)
-        (fill_of node) room (read_start (space_of p) (product_count p) node at.price shelf room (fill_long node ∙ long) fits)
+        (fill_of node) room (read_start (space_of p) (product_count p) node at.price shelf room (length-fill_of node ∙ long) fits)
 
     best : IsGreatest p at node read.0 × (worth_of p at read.0 ≡ (at.constant +ℤ best_sum (space_of p) (product_count p) node at.price room))
     best = read_greatest p node at shelf room read.0 read.1.0 one long fits read.1.1

@@ -1,6 +1,5 @@
 -- The products of a ladder in the order of their grades. Own.
 use Rattle.std.specs.Prelude.{◌≡◌, ℕ, ◌<◌, ◌≤◌, List, [], length, slice_index, slice_index_or}
-use Rattle.std.specs.List.{All, Contains}
 use Rattle.offer_model.specs.Problems.{ProblemData, product_count, product_at}
 use Rattle.offer_model.specs.LeafBounds.{ladder_of}
 
@@ -12,12 +11,6 @@ pub record RungsData : Type 0 where
 -- Of several ladders, that at place k.
 abbrev pub rungs_at : List RungsData → ℕ → RungsData
 rungs_at ladders k = slice_index_or ladders k (record { ladder = 0; products = [] })
-
--- Of the first n products the list has those of the ladder.
-pub record Collects (p : ProblemData) (ladder n : ℕ) (list : List ℕ) : Type 0 where
-  pub few : length list ≤ n
-  pub each : All (λ i. (i < product_count p) × (ladder_of p i ≡ ladder)) list
-  pub all : (i : ℕ) → i < n → ladder_of p i ≡ ladder → Contains list i
 
 -- All products of the ladder, from the lowest grade up.
 pub record AreRungs (p : ProblemData) (r : RungsData) : Type 0 where

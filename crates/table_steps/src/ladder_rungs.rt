@@ -1,8 +1,9 @@
 //! The products of a ladder by grade.
 ghost use Rattle.std.specs.Prelude.{◌≡◌, ◌<◌, length, IfOk};
-ghost use Rattle.offer_model.specs.Problems.{product_count, product_at};
-ghost use Rattle.table_steps.specs.LadderRungs.{AreRungs, Collects};
+ghost use Rattle.offer_model.specs.Problems.{product_at};
+ghost use Rattle.table_steps.specs.LadderRungs.{AreRungs};
 
+use limit_rules::ladder_products;
 use offer_model::{NoMemory, Problem};
 use std::alloc::Global;
 use std::marker::Model;
@@ -33,26 +34,13 @@ fn grade_of(p: &Problem, i: usize) -> u64
     }
 }
 
-/// The products of a ladder, in catalogue order.
-fn collect(alloc: Global, p: &Problem, ladder: u32) -> Result<Vec<usize>, NoMemory>
-    ensures { IfOk result (λ list. Collects p.now ladder (product_count p.now) list.items) }
-{
-    let mut list = Vec::new(alloc);
-    for i in 0..p.products().len() {
-        if p.products().get(i).ladder == ladder {
-            list.push(i)?;
-        }
-    }
-    Ok(list)
-}
-
 impl Rungs {
     /// All products of a ladder.
     pub fn of(alloc: Global, p: &Problem, ladder: u32) -> Result<Rungs, NoMemory>
         ensures rungs { IfOk result (AreRungs p.now) }
         ensures ladder { IfOk result (λ r. r.ladder ≡ ladder) }
     {
-        let mut products = collect(alloc, p, ladder)?;
+        let mut products = ladder_products(alloc, p, ladder)?;
         products.sort_unstable_by_key(|i| grade_of(p, *i));
         Ok(Rungs { ladder, products })
     }

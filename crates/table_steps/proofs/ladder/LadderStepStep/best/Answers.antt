@@ -1,6 +1,7 @@
 use Rattle.std.proofs.Common.{rules}
 use Rattle.linear_step.specs.Weights.{prices_of}
-use Rattle.table_steps.proofs.LadderAnswerLemmas.{solved_greatest, clash_has_none}
+use Rattle.linear_step.proofs.CallerLemmas.{clash_has_none}
+use Rattle.table_steps.proofs.LadderAnswerLemmas.{solved_greatest}
 use Rattle.table_steps.proofs.ladder.LadderStepStep.best.Goals as goal
 
 pub returns-then-not-solve-clause-answer : goal.returns-then-not-solve-clause-answer

@@ -1,5 +1,5 @@
 -- Sums over products of which one more is offered, and over ladders.
-use Rattle.std.proofs.Common.{◌≡◌, ◌≢◌, ℕ, zero, suc, Bool, true, false, cond, List, [], ◌∷◌, length, refl, sym, ap, arith, ◌<◌, ◌+◌, inl, inr}
+use Rattle.std.proofs.Common.{◌≡◌, ◌≢◌, ℕ, zero, suc, Bool, true, false, cond, List, [], ◌∷◌, length, refl, ap, arith, ◌<◌, ◌≤◌, ◌+◌, inl, inr}
 use Rattle.std.specs.Prelude.{pos, ◌+ℤ◌, ◌⊎◌, slice_set, slice_index_or}
 use Rattle.std.proofs.lemmas.Int.{ints}
 use Rattle.std.proofs.lemmas.Bool.{cases_eq}
@@ -13,41 +13,41 @@ use Rattle.offer_model.specs.Prices.{Prices, int_sum_below, worth_of}
 use Rattle.offer_model.specs.LeafBounds.{ladder_top, ladder_tops}
 use Rattle.table_steps.specs.LadderFits.{named_ladder}
 
--- Equal terms have equal sums.
-pub sum_same : (n : ℕ) (f g : ℕ → ℤ) → ((i : ℕ) → i < n → f i ≡ g i) → int_sum_below n f ≡ int_sum_below n g
-sum_same zero f g h = refl
-sum_same (suc n) f g h =
-    let before = sum_same n f g (λ i l. h i (omega arith)) in
-    let here = h n (omega arith) in
-    omega (arith, ints)
+-- ---- One more product is offered.
 
--- Sums that differ in one term.
-sum_changed : (n : ℕ) (f g : ℕ → ℤ) (i : ℕ) → i < n → ((j : ℕ) → j < n → j ≢ i → f j ≡ g j)
-    → int_sum_below n f +ℤ g i ≡ int_sum_below n g +ℤ f i
-sum_changed zero f g i l same = absurd (omega arith)
-sum_changed (suc n) f g i l same = by_place (λ li. sum_changed n f g i li (λ j lj nj. same j (omega arith) nj)) (cases_eq i n)
+-- It changes no sum over products before it.
+worth_before : (n : ℕ) (x : List Bool) (k : ℕ) (f : ℕ → ℤ) → n ≤ k
+    → int_sum_below n (λ i. cond (offers (slice_set x k true) i) (f i) (pos 0)) ≡ int_sum_below n (λ i. cond (offers x i) (f i) (pos 0))
+worth_before zero x k f l = refl
+worth_before (suc n) x k f l =
+    let before = worth_before n x k f (omega arith) in
+    let ne : n ≢ k = omega arith in
+    rw (before, get_or-set_other x k n true false ne) refl
+
+-- To a sum over products among which it is, it adds its own term.
+pub worth_more : (n : ℕ) (x : List Bool) (k : ℕ) (f : ℕ → ℤ) → k < n → k < length x → offers x k ≡ false
+    → int_sum_below n (λ i. cond (offers (slice_set x k true) i) (f i) (pos 0)) ≡ int_sum_below n (λ i. cond (offers x i) (f i) (pos 0)) +ℤ f k
+worth_more zero x k f l inside out = absurd (omega arith)
+worth_more (suc n) x k f l inside out = by_place (cases_eq k n) (λ h. worth_more n x k f h inside out)
   where
-    by_place : (i < n → int_sum_below n f +ℤ g i ≡ int_sum_below n g +ℤ f i) → ((i ≡ n) ⊎ (i ≢ n))
-        → int_sum_below n f +ℤ f n +ℤ g i ≡ int_sum_below n g +ℤ g n +ℤ f i
-    by_place before (inl e) =
-        let below = sum_same n f g (λ j lj. same j (omega arith) (λ k. absurd (omega arith))) in
-        let a = ap f e in
-        let b = ap g e in
-        omega (arith, ints)
-    by_place before (inr ne) =
-        let below = before (omega arith) in
-        let here = same n (omega arith) (λ k. ne (sym k)) in
-        omega (arith, ints)
+    by_place : ((k ≡ n) ⊎ (k ≢ n))
+        → (k < n → int_sum_below n (λ i. cond (offers (slice_set x k true) i) (f i) (pos 0)) ≡ int_sum_below n (λ i. cond (offers x i) (f i) (pos 0)) +ℤ f k)
+        → int_sum_below (suc n) (λ i. cond (offers (slice_set x k true) i) (f i) (pos 0)) ≡ int_sum_below (suc n) (λ i. cond (offers x i) (f i) (pos 0)) +ℤ f k
+    by_place (inr h) next =
+        let before = next (omega arith) in
+        let ne : n ≢ k = omega arith in
+        rw (before, get_or-set_other x k n true false ne) (omega (arith, ints))
+    by_place (inl e) next =
+        let before = worth_before n x k f (omega arith) in
+        let same : offers (slice_set x k true) n ≡ true = rw (← e) (get_or-set_same x k true false inside) in
+        let none : offers x n ≡ false = rw (← e) out in
+        rw (before, same, none, e) (omega (arith, ints))
 
--- One more product is offered.
+-- To the worth it adds its price.
 pub worth_set : (p : ProblemData) (at : Prices) (x : List Bool) (i : ℕ) → length x ≡ product_count p → i < product_count p → offers x i ≡ false
     → worth_of p at (slice_set x i true) ≡ worth_of p at x +ℤ at.price i
 worth_set p at x i long l off =
-    let s = sum_changed (product_count p) (λ j. cond (offers (slice_set x i true) j) (at.price j) (pos 0)) (λ j. cond (offers x j) (at.price j) (pos 0)) i l
-    (λ j lj ne. ap (λ b. cond b (at.price j) (pos 0)) (get_or-set_other x i j true false ne)) in
-    let a : cond (offers (slice_set x i true) i) (at.price i) (pos 0) ≡ at.price i
-    = ap (λ b. cond b (at.price i) (pos 0)) (get_or-set_same x i true false (omega arith)) in
-    let b : cond (offers x i) (at.price i) (pos 0) ≡ pos 0 = ap (λ b. cond b (at.price i) (pos 0)) off in
+    let s = worth_more (product_count p) x i at.price l (omega arith) off in
     omega (arith, ints)
 
 -- ---- Over ladders.
