@@ -9,9 +9,9 @@ ghost use Rattle.shelf_table.specs.Tables.{space_of, price_in, IsTableOf};
 ghost use Rattle.proof_check.specs.Shelves.{AreFirstSettled};
 ghost use Rattle.proof_check.specs.Leaves.{space_for, HasTable};
 
-use crate::numbers::plus;
 use crate::shelf::shelf;
 use linear_step::Weights;
+use linear_weights::plus;
 use offer_model::{MOST_COUNT, Mark, NoMemory, Node, Problem};
 use shelf_table::{ShelfTable, first_open, room_left, spaces_of};
 use std::alloc::Global;

@@ -2,9 +2,8 @@
 ghost use Rattle.std.specs.Prelude.{◌≡◌, ◌↔◌, [], length, IfOk, IsTrue};
 ghost use Rattle.offer_model.specs.Problems.{product_count};
 ghost use Rattle.offer_model.specs.Validity.{IsProblem, IsRatioModel};
-ghost use Rattle.offer_model.specs.Nodes.{is_in};
 ghost use Rattle.proof_lines.specs.Lines.{AreNumbers, IsLine};
-ghost use Rattle.proof_lines.specs.Closing.{ComesAfter, BoundCloses, Closes};
+ghost use Rattle.proof_lines.specs.Closing.{BoundCloses, Closes};
 ghost use Rattle.linear_step.specs.Weights.{prices_of, AreWeights};
 ghost use Rattle.proof_check.specs.Leaves.{HasRoom, ClosesBy};
 ghost use Rattle.proof_check.specs.Judging.{AreOwnWeights};
@@ -12,10 +11,10 @@ ghost use Rattle.proof_check.specs.Judging.{AreOwnWeights};
 use crate::kept_table::{KeptTable, settled_first};
 use crate::potentials::Potentials;
 use crate::shelf::ShelfRow;
-use limit_rules::clashes;
+use limit_rules::{clashes, comes_after};
 use linear_step::Weights;
 use multiplier_bound::Multipliers;
-use offer_model::{Assortment, Mark, NoMemory, Node, Problem, Wide};
+use offer_model::{Assortment, NoMemory, Node, Problem, Wide};
 use proof_lines::Shape;
 use std::alloc::Global;
 
@@ -26,26 +25,6 @@ pub(crate) struct Leaves {
     potentials: Potentials,
     kept: KeptTable,
     shelf: ShelfRow,
-}
-
-fn is_in(mark: Mark) -> bool
-    ensures { result ≡ is_in mark }
-{
-    matches!(mark, Mark::In)
-}
-
-/// Whether the node's first completion isn't before `x`.
-fn comes_after(node: &Node, x: &Assortment) -> bool
-    requires { length x.now ≡ length node.now }
-    ensures { IsTrue result ↔ ComesAfter node.now x.now }
-{
-    for i in 0..x.len() {
-        let offered = is_in(node.mark(i));
-        if offered != x.offers(i) {
-            return offered;
-        }
-    }
-    true
 }
 
 /// Whether a bound closes the node.

@@ -3,7 +3,6 @@
 
 mod checker;
 mod claim;
-mod copy;
 mod header;
 mod kept_table;
 mod ladders;

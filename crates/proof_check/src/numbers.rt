@@ -1,5 +1,5 @@
-ghost use Rattle.std.specs.Prelude.{◌≡◌, ◌<◌, ◌≤◌, ◌^◌, length, pos, ◌+ℤ◌, slice_index};
-ghost use Rattle.linear_step.specs.Weights.{IsWithin};
+//! The numbers of a line.
+ghost use Rattle.std.specs.Prelude.{◌≡◌, ◌<◌, ◌≤◌, ◌^◌, length, pos, slice_index};
 ghost use Rattle.proof_lines.specs.Lines.{AreNumbers};
 
 use offer_model::Wide;
@@ -20,11 +20,4 @@ pub(crate) fn signed(number: u128) -> i128
     ensures { result ≡ pos number }
 {
     number as i128
-}
-
-pub(crate) fn plus(a: i128, b: i128) -> i128
-    requires { IsWithin (2 ^ 126) (a +ℤ b) }
-    ensures { result ≡ a +ℤ b }
-{
-    a + b
 }

@@ -10,9 +10,10 @@ ghost use Rattle.proof_check.specs.LadderLists.{IsLadderOf};
 ghost use Rattle.proof_check.specs.Leaves.{AreLaddersOf, HasSets};
 
 use crate::ladders::Ladders;
-use crate::numbers::{number_at, plus, signed};
+use crate::numbers::{number_at, signed};
 use limit_rules::may_stand;
 use linear_step::Weights;
+use linear_weights::plus;
 use offer_model::{Assortment, Limit, Mark, NoMemory, Node, Problem, Product, Wide};
 use std::alloc::Global;
 

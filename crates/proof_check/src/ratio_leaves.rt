@@ -8,7 +8,6 @@ ghost use Rattle.proof_lines.specs.Acceptance.{digits_of, value_numbers};
 ghost use Rattle.proof_check.specs.Judging.{AreOwnWeights};
 
 use crate::claim::{is_feasible, own_gain, own_weight, says_value, write_set};
-use crate::copy::copy_problem;
 use crate::leaf::Leaves as LeafRoom;
 use linear_step::{Weights, weights_at};
 use offer_model::{Assortment, ModelName, NoMemory, Node, Problem, Wide};
@@ -56,7 +55,7 @@ impl RatioLeaves {
         ensures valid { IfOk result (λ s. IsProblem s.problem) }
         ensures problem { IfOk result (λ s. s.problem ≡ p.now) }
     {
-        let problem = copy_problem(alloc, p)?;
+        let problem = p.copy(alloc)?;
         let n = problem.products().len();
         let set = Assortment::empty(alloc, n)?;
         let mut weights = Weights::reserve(alloc, n)?;

@@ -5,8 +5,8 @@ ghost use Rattle.linear_step.specs.Weights.{weight_at, prices_of, IsWithin, AreW
 ghost use Rattle.proof_check.specs.Shelves.{cell, IsRow, IsSmall};
 ghost use Rattle.proof_check.specs.Leaves.{cells_for, HasCells};
 
-use crate::numbers::plus;
 use linear_step::Weights;
+use linear_weights::plus;
 use offer_model::{Limit, Limits, MOST_COUNT, Mark, NoMemory, Node, Problem};
 use std::alloc::Global;
 
