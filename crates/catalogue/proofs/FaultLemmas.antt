@@ -1,5 +1,5 @@
 -- First faults, among those of one row and among rows.
-use Rattle.std.proofs.Common.{◌≡◌, ◌∙◌, sym, ap, refl, arith, ℕ, zero, suc, ◌+◌, ◌<◌, List, [], ◌∷◌, cond, Bool, true, false, Option, Some, None, Result, Ok, Err, IfErr, subst}
+use Rattle.std.proofs.Common.{◌≡◌, ◌∙◌, sym, ap, refl, arith, ℕ, zero, suc, ◌+◌, ◌<◌, List, [], ◌∷◌, cond, Bool, true, false, Option, Some, None, option_map, Result, Ok, Err, IfErr, subst}
 use Rattle.std.specs.Result.{IsErrAnd}
 use Rattle.std.specs.Option.{option_or}
 use Rattle.catalogue.specs.declared.faults.Code.{Code}
@@ -84,6 +84,17 @@ module _ (file : FileName) (fault_in : ℕ → Option Code) (n : ℕ) where
       let zero_add : (j : ℕ) → 0 + j ≡ j = λ j. omega arith in
       row_fault_from file fault_in 0 n k code inside (λ j h. ap fault_in (zero_add j) ∙ before j h) (ap fault_in (zero_add k) ∙ fault)
       ∙ ap (λ m. Some (Fault file (m + 2) code)) (zero_add k)
+
+  -- And with it the file's, where no row before it has one.
+  pub first_row_fault_of : (k : ℕ) (e : InputFault) → k < n → ((j : ℕ) → j < k → fault_in j ≡ None)
+      → OnFault e (option_map (Fault file (k + 2)) (fault_in k) ≡ Some e) → OnFault e (first_row_fault file fault_in 0 n ≡ Some e)
+  first_row_fault_of k NoMemory inside before fault = tt
+  first_row_fault_of k (Fault other row code) inside before fault = by_fault (fault_in k) refl fault
+    where
+      by_fault : (o : Option Code) → fault_in k ≡ o → option_map (Fault file (k + 2)) o ≡ Some (Fault other row code)
+          → first_row_fault file fault_in 0 n ≡ Some (Fault other row code)
+      by_fault None is fault = cc
+      by_fault (Some code) is fault = first_row_fault_at k code inside before is ∙ fault
 
   pub row_is_clean : (k : ℕ) → first_row_fault file fault_in 0 n ≡ None → k < n → fault_in k ≡ None
   row_is_clean k none inside =

@@ -7,6 +7,7 @@ pub mod Faults
 pub mod ProductTables
 pub mod LimitTables
 pub mod ProductCells
+pub mod SeenNames
 pub mod SegmentTables
 pub mod CatalogueProblems
 pub mod PrintedProducts

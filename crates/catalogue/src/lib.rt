@@ -15,6 +15,7 @@ mod printing;
 mod problems;
 mod product_cells;
 mod product_columns;
+mod product_rows;
 mod products;
 mod segment_table;
 mod table_faults;

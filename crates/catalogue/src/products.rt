@@ -9,9 +9,9 @@ ghost use Rattle.catalogue.specs.ProductTables.{product_columns, product_fault, 
 
 use crate::catalogue::{Catalogue, Row};
 use crate::faults::{Code, FileName, InputFault};
-use crate::name_set::NameSet;
-use crate::product_cells::{needed_columns, read_cells};
+use crate::product_cells::needed_columns;
 use crate::product_columns::PRODUCT_COLUMNS;
+use crate::product_rows::{SeenNames, read_row};
 use crate::table_faults::fault_of_table;
 use offer_model::{ModelName, NoMemory, Texts};
 use std::alloc::Global;
@@ -50,25 +50,10 @@ fn read_rows(
     ensures fault { IfErr result (λ e. OnFault e
         (first_row_fault file.Products (product_fault model table.now) 0 (length table.now.records) ≡ Some e)) }
 {
-    let mut names = NameSet::new(alloc);
-    let mut categories = NameSet::new(alloc);
-    let mut ladders = NameSet::new(alloc);
+    let mut seen = SeenNames::new(alloc);
     let mut rows = Vec::new(alloc);
     'rows: for k in 0..table.rows() {
-        let cells = match read_cells(table, k, model, &names) {
-            Ok(cells) => cells,
-            Err(code) => {
-                return Err(InputFault::Fault {
-                    file: FileName::Products,
-                    row: k + 2,
-                    code,
-                });
-            }
-        };
-        names.insert(cells.name.as_bytes())?;
-        let category = categories.number(cells.category.as_bytes())?;
-        let ladder = ladders.number(cells.ladder.as_bytes())?;
-        rows.push(cells.to_row(alloc, category, ladder)?)?;
+        rows.push(read_row(alloc, table, k, model, &mut seen)?)?;
     }
     Ok(rows)
 }
