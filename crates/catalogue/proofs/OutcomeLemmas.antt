@@ -5,23 +5,44 @@ use Rattle.offer_model.specs.declared.products.ModelName.TheVariants.{Attract}
 use Rattle.table_reader.specs.Records.{records_of}
 use Rattle.table_reader.specs.Tables.{TableData}
 use Rattle.table_reader.specs.TableFaults.{table_outcome}
+use Rattle.table_reader.specs.TableFaults as faults
+use Rattle.table_reader.specs.declared.faults.TableFault.{TableFault}
+use Rattle.table_reader.specs.declared.faults.TableFault.TheVariants as found
 use Rattle.catalogue.specs.declared.faults.Code.{Code}
 use Rattle.catalogue.specs.declared.faults.FileName.TheVariants.{Products}
 use Rattle.catalogue.specs.declared.faults.InputFault.{InputFault}
 use Rattle.catalogue.specs.declared.faults.InputFault.TheVariants.{Fault, NoMemory}
 use Rattle.catalogue.specs.CatalogueProblems.{KeepsShadows}
 use Rattle.catalogue.specs.Rows.{RowData, IsCatalogue}
-use Rattle.catalogue.specs.Faults.{OnFault, first_row_fault}
-use Rattle.catalogue.specs.ProductTables.{product_columns, needed_columns, product_fault, product_rows, arrival_fault, products_outcome}
+use Rattle.catalogue.specs.Faults.{OnFault, fault_of_table, first_row_fault}
+use Rattle.catalogue.specs.ProductTables.{product_columns, needed_columns, product_fault, product_rows, arrival_fault, products_in, products_outcome}
 use Rattle.catalogue.proofs.FaultLemmas.{row_is_clean}
 use Rattle.catalogue.proofs.ProductLemmas.{is_catalogue, keeps_shadows}
 
-pub table_made : (model : ModelName) (bytes : List ℕ) (table : TableData) (names : List (List ℕ)) (needed : List Bool) → names ≡ product_columns
-    → needed ≡ needed_columns model → table_outcome names needed (records_of bytes) ≡ Ok table
+-- The table under the columns that a model needs.
+pub table_made : (model : ModelName) (bytes : List ℕ) (table : TableData) (needed : List Bool) → needed ≡ needed_columns model
+    → table_outcome product_columns needed (records_of bytes) ≡ Ok table
     → table_outcome product_columns (needed_columns model) (records_of bytes) ≡ Ok table
-table_made model bytes table names needed are which made =
-    ap (λ ns. table_outcome ns (needed_columns model) (records_of bytes)) (sym are)
-    ∙ ap (λ ds. table_outcome names ds (records_of bytes)) (sym which) ∙ made
+table_made model bytes table needed which made = ap (λ ds. table_outcome product_columns ds (records_of bytes)) (sym which) ∙ made
+
+-- A fault of the table is the file's.
+pub table_fault_stands : (model : ModelName) (bytes : List ℕ) (fault : TableFault) (needed : List Bool) → needed ≡ needed_columns model
+    → faults.OnFault fault (table_outcome product_columns needed (records_of bytes) ≡ Err fault)
+    → OnFault (fault_of_table Products fault) (products_outcome model bytes ≡ Err (fault_of_table Products fault))
+table_fault_stands model bytes fault needed which = by_fault fault
+  where
+    stands : (fault : TableFault) → table_outcome product_columns needed (records_of bytes) ≡ Err fault
+        → products_outcome model bytes ≡ Err (fault_of_table Products fault)
+    stands fault made =
+        ap (λ ds. products_in model (table_outcome product_columns ds (records_of bytes))) (sym which) ∙ ap (products_in model) made
+
+    by_fault : (fault : TableFault) → faults.OnFault fault (table_outcome product_columns needed (records_of bytes) ≡ Err fault)
+        → OnFault (fault_of_table Products fault) (products_outcome model bytes ≡ Err (fault_of_table Products fault))
+    by_fault (found.UnknownColumn place) made = stands (found.UnknownColumn place) made
+    by_fault (found.RepeatedColumn place) made = stands (found.RepeatedColumn place) made
+    by_fault (found.MissingColumn c) made = stands (found.MissingColumn c) made
+    by_fault (found.FieldCount row) made = stands (found.FieldCount row) made
+    by_fault found.NoMemory made = tt
 
 module _ (model : ModelName) (bytes : List ℕ) (table : TableData)
     (made : table_outcome product_columns (needed_columns model) (records_of bytes) ≡ Ok table) where

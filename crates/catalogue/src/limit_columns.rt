@@ -10,3 +10,6 @@ pub const NUMBER: usize = 3;
 
 /// The number of columns.
 pub const LIMIT_COLUMNS: usize = 4;
+
+/// The names of the columns.
+pub const COLUMNS: [&[u8]; LIMIT_COLUMNS] = [b"kind", b"first", b"second", b"number"];

@@ -7,28 +7,16 @@ ghost use Rattle.catalogue.specs.Sizes.{most_table};
 ghost use Rattle.catalogue.specs.CatalogueProblems.{problem_data_of};
 ghost use Rattle.catalogue.specs.Faults.{OnFault, first_row_fault};
 ghost use Rattle.catalogue.specs.Rows.{HasNumbers};
-ghost use Rattle.catalogue.specs.LimitTables.{limit_columns, limit_fault, limits_before, limits_outcome};
+ghost use Rattle.catalogue.specs.LimitTables.{limit_fault, limits_before, limits_outcome};
 
 use crate::catalogue::{Catalogue, Row};
 use crate::faults::{FileName, InputFault};
-use crate::limit_columns::LIMIT_COLUMNS;
+use crate::limit_columns::{COLUMNS, LIMIT_COLUMNS};
 use crate::limit_rows::read_limit;
 use crate::table_faults::fault_of_table;
-use offer_model::{Limit, Limits, MOST_LIMITS, NoMemory, Texts};
+use offer_model::{Limit, Limits, MOST_LIMITS};
 use std::alloc::Global;
 use table_reader::{Table, read_table};
-
-/// The names of the columns.
-fn limit_columns(alloc: Global) -> Result<Texts, NoMemory>
-    ensures { IfOk result (λ names. names ≡ limit_columns) }
-{
-    let mut names = Texts::new(alloc);
-    names.push("kind")?;
-    names.push("first")?;
-    names.push("second")?;
-    names.push("number")?;
-    Ok(names)
-}
 
 fn is_requires(limit: Limit) -> bool
     ensures { result ≡ is_requires limit }
@@ -78,8 +66,7 @@ pub fn read_limits(alloc: Global, bytes: &[u8], c: &Catalogue) -> Result<Limits,
     ensures fits { IfOk result (λ limits. (model : ModelName) (none unit : ℕ) → HasLimits (problem_data_of c.now model none unit limits.items)) }
     ensures fault { IfErr result (λ e. OnFault e (limits_outcome c.now bytes.now ≡ Err e)) }
 {
-    let names = limit_columns(alloc)?;
-    let table = match read_table::<LIMIT_COLUMNS>(alloc, bytes, &names, &[true; LIMIT_COLUMNS]) {
+    let table = match read_table::<LIMIT_COLUMNS>(alloc, bytes, &COLUMNS, &[true; LIMIT_COLUMNS]) {
         Ok(table) => table,
         Err(fault) => return Err(fault_of_table(FileName::Limits, fault)),
     };

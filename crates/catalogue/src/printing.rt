@@ -4,24 +4,11 @@ ghost use Rattle.catalogue.specs.PrintedProducts.{product_fields, products_text,
 ghost use Rattle.catalogue.specs.ProductTables.{product_columns};
 
 use crate::catalogue::{Catalogue, Row};
-use crate::product_columns::PRODUCT_COLUMNS;
+use crate::product_columns::COLUMNS;
 use csv::{Writer, WriterBuilder};
 use itoa::Buffer;
 use offer_model::{Bytes, NoMemory};
 use std::alloc::Global;
-
-const COLUMNS: [&[u8]; PRODUCT_COLUMNS] = [
-    b"name",
-    b"margin",
-    b"attraction",
-    b"shadow",
-    b"category",
-    b"space",
-    b"price",
-    b"ladder",
-    b"grade",
-    b"arrival",
-];
 
 /// A writer to memory, by csv's defaults, that has written nothing.
 fn fresh_writer(alloc: Global) -> Writer<Vec<u8>>

@@ -22,3 +22,17 @@ pub const ARRIVAL: usize = 9;
 
 /// The number of columns.
 pub const PRODUCT_COLUMNS: usize = 10;
+
+/// The names of the columns, for reading and for printing.
+pub const COLUMNS: [&[u8]; PRODUCT_COLUMNS] = [
+    b"name",
+    b"margin",
+    b"attraction",
+    b"shadow",
+    b"category",
+    b"space",
+    b"price",
+    b"ladder",
+    b"grade",
+    b"arrival",
+];

@@ -5,38 +5,20 @@ ghost use Rattle.catalogue.specs.Sizes.{most_table};
 ghost use Rattle.catalogue.specs.CatalogueProblems.{KeepsShadows};
 ghost use Rattle.catalogue.specs.declared.faults.FileName.TheVariants as file;
 ghost use Rattle.catalogue.specs.Faults.{OnFault, first_row_fault};
-ghost use Rattle.catalogue.specs.ProductTables.{product_columns, product_fault, product_rows, arrival_fault, products_outcome};
+ghost use Rattle.catalogue.specs.ProductTables.{product_fault, product_rows, arrival_fault, products_outcome};
 
 use crate::catalogue::{Catalogue, Row};
 use crate::faults::{Code, FileName, InputFault};
 use crate::product_cells::needed_columns;
-use crate::product_columns::PRODUCT_COLUMNS;
+use crate::product_columns::{COLUMNS, PRODUCT_COLUMNS};
 use crate::product_rows::{SeenNames, read_row};
 use crate::table_faults::fault_of_table;
-use offer_model::{ModelName, NoMemory, Texts};
+use offer_model::ModelName;
 use std::alloc::Global;
 use table_reader::{Table, read_table};
 
 /// The most bytes of a table file.
 pub const MOST_TABLE: usize = 16_777_216;
-
-/// The names of the columns.
-fn product_columns(alloc: Global) -> Result<Texts, NoMemory>
-    ensures { IfOk result (λ names. names ≡ product_columns) }
-{
-    let mut names = Texts::new(alloc);
-    names.push("name")?;
-    names.push("margin")?;
-    names.push("attraction")?;
-    names.push("shadow")?;
-    names.push("category")?;
-    names.push("space")?;
-    names.push("price")?;
-    names.push("ladder")?;
-    names.push("grade")?;
-    names.push("arrival")?;
-    Ok(names)
-}
 
 /// The rows of a table, or the first fault of one.
 fn read_rows(
@@ -86,8 +68,12 @@ pub fn read_products(alloc: Global, bytes: &[u8], model: ModelName) -> Result<Ca
     ensures shadows { IfOk result (λ rows. model ≡ ModelName.Attract → KeepsShadows rows) }
     ensures fault { IfErr result (λ e. OnFault e (products_outcome model bytes.now ≡ Err e)) }
 {
-    let names = product_columns(alloc)?;
-    let table = match read_table::<PRODUCT_COLUMNS>(alloc, bytes, &names, &needed_columns(model)) {
+    let table = match read_table::<PRODUCT_COLUMNS>(
+        alloc,
+        bytes,
+        &COLUMNS,
+        &needed_columns(model),
+    ) {
         Ok(table) => table,
         Err(fault) => return Err(fault_of_table(FileName::Products, fault)),
     };

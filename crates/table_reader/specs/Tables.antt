@@ -1,5 +1,6 @@
 -- What a table file holds, by columns. Own.
 use Rattle.std.specs.Prelude.{◌≡◌, ◌<◌, ℕ, Bool, true, false, List, [], ◌∷◌, length, drop, map, position, slice_get, slice_index_or, Option, Some, None, IsSome, option_and_then, All, IfSome}
+use Rattle.std.specs.Borrow.{Bor}
 use Rattle.std.specs.List.{list_any}
 use Rattle.std.specs.Str.{bytes_eq}
 
@@ -15,6 +16,10 @@ header_of records = slice_index_or records 0 []
 -- Whether a text is one of these.
 abbrev pub is_among : List ℕ → List (List ℕ) → Bool
 is_among text texts = list_any (bytes_eq text) texts
+
+-- The names that are lent.
+abbrev pub names_in : List (Bor (List ℕ)) → List (List ℕ)
+names_in names = map (λ name. name.now) names
 
 -- No name is among those after it.
 abbrev pub AreDistinct : List (List ℕ) → Type 0

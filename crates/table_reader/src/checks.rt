@@ -1,12 +1,11 @@
 ghost use Rattle.std.specs.Prelude.{◌≡◌, ◌<◌, ◌==◌, not, length, map, position, IfOk, IfErr, IfSome, OnOk, Some, None};
 ghost use Rattle.csv.specs.Records.{fields_of};
-ghost use Rattle.table_reader.specs.Tables.{AreDistinct, header_of, places_of};
+ghost use Rattle.table_reader.specs.Tables.{AreDistinct, names_in, header_of, places_of};
 ghost use Rattle.table_reader.specs.TableFaults.{first_fault, first_missing, header_fault};
 
 use crate::faults::TableFault;
 use crate::header::header_places;
 use csv::ByteRecord;
-use offer_model::Texts;
 
 /// The first needed column that is absent.
 fn missing_column<const N: usize>(places: &[Option<usize>; N], needed: &[bool; N]) -> Option<usize>
@@ -40,16 +39,16 @@ fn header_width(records: &[ByteRecord]) -> usize
 /// The place of each column in the header, or the header's first fault. Without a header no column is there.
 fn table_places<const N: usize>(
     records: &[ByteRecord],
-    names: &Texts,
+    names: &[&[u8]],
 ) -> Result<[Option<usize>; N], TableFault>
     requires count { length names.now ≡ N }
-    requires distinct { AreDistinct names.now }
+    requires distinct { AreDistinct (names_in names.now) }
     ensures places { let header = header_of (map fields_of records.now) in
-        IfOk result (λ places. places ≡ places_of names.now header) }
+        IfOk result (λ places. places ≡ places_of (names_in names.now) header) }
     ensures sound { let header = header_of (map fields_of records.now) in
-        OnOk result (header_fault names.now header ≡ None) }
+        OnOk result (header_fault (names_in names.now) header ≡ None) }
     ensures fault { let header = header_of (map fields_of records.now) in
-        IfErr result (λ e. header_fault names.now header ≡ Some e) }
+        IfErr result (λ e. header_fault (names_in names.now) header ≡ Some e) }
 {
     let Some(header) = records.first() else {
         return Ok([None; N]);
@@ -60,17 +59,17 @@ fn table_places<const N: usize>(
 /// The place of each column in the records' header, or the first fault of the records.
 pub fn checked_places<const N: usize>(
     records: &[ByteRecord],
-    names: &Texts,
+    names: &[&[u8]],
     needed: &[bool; N],
 ) -> Result<[Option<usize>; N], TableFault>
     requires count { length names.now ≡ N }
-    requires distinct { AreDistinct names.now }
+    requires distinct { AreDistinct (names_in names.now) }
     ensures places { let header = header_of (map fields_of records.now) in
-        IfOk result (λ places. places ≡ places_of names.now header) }
+        IfOk result (λ places. places ≡ places_of (names_in names.now) header) }
     ensures sound { let records = map fields_of records.now in
-        OnOk result (first_fault names.now needed.now records ≡ None) }
+        OnOk result (first_fault (names_in names.now) needed.now records ≡ None) }
     ensures fault { let records = map fields_of records.now in
-        IfErr result (λ e. first_fault names.now needed.now records ≡ Some e) }
+        IfErr result (λ e. first_fault (names_in names.now) needed.now records ≡ Some e) }
 {
     let places = table_places(records, names)?;
     if let Some(c) = missing_column(&places, needed) {

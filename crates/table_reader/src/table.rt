@@ -1,6 +1,6 @@
 ghost use Rattle.std.specs.Prelude.{◌≡◌, ◌<◌, ◌↔◌, length, option_map, IsNone, IfOk, IfErr};
 ghost use Rattle.table_reader.specs.Records.{records_of};
-ghost use Rattle.table_reader.specs.Tables.{AreDistinct, HasNeeded, place_of, field_of};
+ghost use Rattle.table_reader.specs.Tables.{AreDistinct, names_in, HasNeeded, place_of, field_of};
 ghost use Rattle.table_reader.specs.TableFaults.{OnFault, table_outcome};
 
 use crate::checks::checked_places;
@@ -9,7 +9,6 @@ use crate::faults::TableFault;
 use crate::header::field;
 use crate::records::all_records;
 use csv::ByteRecord;
-use offer_model::Texts;
 use std::alloc::Global;
 use std::marker::Model;
 
@@ -65,15 +64,15 @@ impl<const N: usize> Table<N> {
 pub fn read_table<const N: usize>(
     alloc: Global,
     bytes: &[u8],
-    names: &Texts,
+    names: &[&[u8]],
     needed: &[bool; N],
 ) -> Result<Table<N>, TableFault>
     requires count { length names.now ≡ N }
-    requires distinct { AreDistinct names.now }
-    ensures table { let outcome = table_outcome names.now needed.now (records_of bytes.now) in
+    requires distinct { AreDistinct (names_in names.now) }
+    ensures table { let outcome = table_outcome (names_in names.now) needed.now (records_of bytes.now) in
         IfOk result (λ t. outcome ≡ Ok t) }
     ensures needed { IfOk result (λ t. HasNeeded needed.now t) }
-    ensures fault { let outcome = table_outcome names.now needed.now (records_of bytes.now) in
+    ensures fault { let outcome = table_outcome (names_in names.now) needed.now (records_of bytes.now) in
         IfErr result (λ e. OnFault e (outcome ≡ Err e)) }
 {
     let records = all_records(alloc, bytes)?;
