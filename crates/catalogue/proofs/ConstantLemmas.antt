@@ -7,10 +7,11 @@ use Rattle.catalogue.specs.declared.limit_columns.TheConstants.{KIND, FIRST, SEC
 use Rattle.catalogue.specs.Sizes.{most_name, most_table}
 use Rattle.catalogue.specs.Columns.{name_column, margin_column, attraction_column, shadow_column, category_column, space_column, price_column, ladder_column, grade_column, arrival_column, kind_column, first_column, second_column, number_column}
 
--- The longest name and the longest table file.
+-- The longest name.
 pub most_name_is : MOST_NAME ≡ most_name
 most_name_is = refl
 
+-- The longest table file.
 pub most_table_is : MOST_TABLE ≡ most_table
 most_table_is = refl
 

@@ -30,6 +30,7 @@ pub no_fault_if : (b : Bool) (code : Code) → cond b (Some code) None ≡ None 
 no_fault_if true code none = cc
 no_fault_if false code none = refl
 
+-- And the other way round.
 pub no_fault_else : (b : Bool) (code : Code) → cond b None (Some code) ≡ None → b ≡ true
 no_fault_else true code none = refl
 no_fault_else false code none = cc

@@ -25,6 +25,7 @@ lent_place name keys = place_or_length (λ (key : Bor (List ℕ)). bytes_eq name
     of_bytes [] = refl
     of_bytes (k ∷ ks) = rw (of_bytes ks) refl
 
+-- The same for names that are seen as a list of bytes.
 pub place_found : (name : List ℕ) (keys : List (Bor (List ℕ))) (known : List (List ℕ)) (found : Option ℕ) (n place : ℕ) → lent_names keys ≡ known
     → found ≡ position (λ (key : Bor (List ℕ)). bytes_eq name key.now) keys → n ≡ length keys → place ≡ unwrap_or found n
     → place ≡ position_or_len (bytes_eq name) known

@@ -43,6 +43,7 @@ repeats_back _ _ same = absurd same
 pub requires_more : (limits : List Limit) (next : Limit) → count_by is_requires (limits ++ next ∷ []) ≡ count_by is_requires limits + cond (is_requires next) 1 0
 requires_more limits next = sum_by-append (λ (x : Limit). cond (is_requires x) 1 0) limits (next ∷ []) ∙ omega arith
 
+-- One more row states one more limit.
 pub limits_more : (rows : List RowData) (table : TableData) (k : ℕ) → limits_before rows table (k + 1) ≡ limits_before rows table k ++ stated_limit rows table k ∷ []
 limits_more rows table k = map-range_with_len_more (stated_limit rows table) 0 k k (omega arith)
 
@@ -61,6 +62,7 @@ pub record CleanLimit (rows : List RowData) (table : TableData) (k : ℕ) (kind 
   pub number : cap_fault kind (text_of table k number_column) ≡ None
   pub once : repeated_fault rows table k ≡ None
 
+-- Of a row without a fault, nothing that its kind uses is wrong.
 pub clean_limit : (rows : List RowData) (table : TableData) (k : ℕ) → limit_fault rows table k ≡ None → (kind : LimitKind) × CleanLimit rows table k kind
 clean_limit rows table k clean =
     let parts = all_none (line_fault k ∷ fault_of_kind rows table k (kind_of_row table k) ∷ []) clean in

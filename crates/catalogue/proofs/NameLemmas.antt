@@ -76,6 +76,7 @@ pub distinct_push_empty : (texts : List (List ℕ)) (text : List ℕ) → (lengt
 distinct_push_empty [] text empty = rw empty refl
 distinct_push_empty (t ∷ ts) text empty = rw (distinct_push_empty ts text empty) refl
 
+-- A name goes last unless it is there.
 pub distinct_push : (texts : List (List ℕ)) (name : List ℕ) → (length name == 0) ≡ false
     → distinct_names (texts ++ name ∷ [])
     ≡ cond (is_among name (distinct_names texts)) (distinct_names texts) (distinct_names texts ++ name ∷ [])
@@ -151,6 +152,7 @@ place_or_length p (x ∷ xs) = rw (position_cons p x xs) (by_first (p x) refl (m
     by_first true here rest = rw here refl
     by_first false miss rest = rw miss (rest ∙ omega arith)
 
+-- That is at most the length.
 pub place_within : {X : Type 0} (p : X → Bool) (xs : List X) → position_or_len p xs ≤ length xs
 place_within p [] = omega arith
 place_within p (x ∷ xs) = by_first (p x) refl (place_within p xs)
@@ -188,6 +190,7 @@ among_inserted p xs y here = by_found (list_any p xs) refl
     by_found true there = rw there there
     by_found false gone = rw (gone, list_any-append p xs (y ∷ []), here) (or_true (list_any p xs))
 
+-- What isn't there is none.
 pub none_if_gone : (o : Option ℕ) → is_some o ≡ false → o ≡ None
 none_if_gone None gone = refl
 none_if_gone (Some k) gone = cc

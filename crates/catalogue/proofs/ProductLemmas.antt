@@ -61,6 +61,7 @@ pub record CleanRow (model : ModelName) (table : TableData) (k : ℕ) : Type 0 w
   pub arrival : amount_fault model table k arrival_column MOST_AMOUNT ≡ None
   pub below : shadow_fault model table k ≡ None
 
+-- So says the first fault of a row.
 pub clean_row : (model : ModelName) (table : TableData) (k : ℕ) → product_fault model table k ≡ None → CleanRow model table k
 clean_row model table k clean =
     let each = all_none (count_fault k ∷ name_fault (text_of table k name_column) ∷ repeat_fault table k

@@ -31,6 +31,7 @@ range_fault least most (Some n) = if nat_le least n && nat_le n most then None e
 abbrev pub number_fault : ℕ → ℕ → List ℕ → Option Code
 number_fault least most text = range_fault least most (number_of text)
 
+-- What is wrong with a text as a name.
 abbrev pub name_fault : List ℕ → Option Code
 name_fault text = if is_name text then None else Some BadName
 

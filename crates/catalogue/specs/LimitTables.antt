@@ -26,6 +26,7 @@ use Rattle.catalogue.specs.Rows.{RowData}
 abbrev pub limit_columns : List (List ℕ)
 limit_columns = codes "kind" ∷ codes "first" ∷ codes "second" ∷ codes "number" ∷ []
 
+-- The kind that a text names.
 abbrev pub kind_named : List ℕ → Option LimitKind
 kind_named text =
     if bytes_eq text (codes "total") then Some Total
@@ -64,6 +65,7 @@ second_named rows Category text = Some 0
 second_named rows Shelf text = Some 0
 second_named rows Ladder text = Some 0
 
+-- Whether a kind has a number.
 abbrev pub uses_number : LimitKind → Bool
 uses_number Total = true
 uses_number Category = true
@@ -79,13 +81,14 @@ limit_by Requires first second number = limit.Requires first second
 limit_by Shelf first second number = limit.Shelf number
 limit_by Ladder first second number = limit.Ladder first
 
--- The limit that data row k states. A row without a fault has each part.
+-- The limit of this kind that data row k states. A row without a fault has each part.
 abbrev pub limit_under : List RowData → TableData → ℕ → LimitKind → Limit
 limit_under rows table k kind = limit_by kind
     (unwrap_or (first_named rows kind (text_of table k first_column)) 0)
     (unwrap_or (second_named rows kind (text_of table k second_column)) 0)
     (written_number (text_of table k number_column))
 
+-- The limit that data row k states, of its own kind.
 abbrev pub stated_limit : List RowData → TableData → ℕ → Limit
 stated_limit rows table k = limit_under rows table k (unwrap_or (kind_of_row table k) Total)
 
@@ -112,9 +115,11 @@ requires_fault rows table k =
     if is_requires (stated_limit rows table k) && not (nat_lt (count_by is_requires (limits_before rows table k)) MOST_REQUIRES)
     then Some TooManyLines else None
 
+-- A field names nothing.
 abbrev pub named_fault : Option ℕ → Option Code
 named_fault found = if is_some found then None else Some UnknownName
 
+-- What is wrong with a number that the kind uses.
 abbrev pub cap_fault : LimitKind → List ℕ → Option Code
 cap_fault kind text = if uses_number kind then number_fault 0 MOST_COUNT text else None
 

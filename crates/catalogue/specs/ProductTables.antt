@@ -33,6 +33,7 @@ needed_columns Attract = true ∷ true ∷ true ∷ false ∷ false ∷ false �
 needed_columns Mixed = true ∷ true ∷ false ∷ false ∷ false ∷ false ∷ false ∷ false ∷ false ∷ false ∷ []
 needed_columns Chain = true ∷ true ∷ false ∷ false ∷ false ∷ false ∷ false ∷ false ∷ false ∷ true ∷ []
 
+-- Whether a model needs column c.
 abbrev pub is_needed : ModelName → ℕ → Bool
 is_needed model c = slice_index_or (needed_columns model) c false
 
@@ -100,6 +101,7 @@ product_row table k = record {
   ladder = text_of table k ladder_column;
 }
 
+-- The rows of all data rows.
 abbrev pub product_rows : TableData → List RowData
 product_rows table = map (product_row table) (range_with_len 0 (length table.records))
 

@@ -1,3 +1,4 @@
+//! A catalogue: its rows, and what the choice models and the limits read of a product.
 ghost use Rattle.std.specs.Prelude.{◌≡◌, ◌<◌, length};
 ghost use Rattle.catalogue.specs.Rows.{row_at, IsCatalogue};
 

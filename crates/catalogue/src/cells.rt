@@ -1,3 +1,4 @@
+//! One cell of a table: its text, and the number or the name that it writes.
 ghost use Rattle.std.specs.Prelude.{◌≡◌, ◌<◌, ◌≤◌, length, false, IfOk, IfErr, OnOk, Some, None};
 ghost use Rattle.catalogue.specs.Cells.{text_of, written_number, number_fault, name_fault, fault_unless_empty};
 

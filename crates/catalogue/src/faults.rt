@@ -1,3 +1,4 @@
+//! What can be wrong with an input file.
 use offer_model::NoMemory;
 use std::alloc::{AllocError, AllocFailed};
 use thiserror::Error;

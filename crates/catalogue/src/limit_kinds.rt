@@ -1,3 +1,4 @@
+//! The kinds of limits that a file names.
 ghost use Rattle.std.specs.Prelude.{◌≡◌};
 ghost use Rattle.catalogue.specs.LimitTables.{kind_named};
 

@@ -1,3 +1,4 @@
+//! One row of a limits file: the limit that it states, or what is wrong with it.
 ghost use Rattle.std.specs.Prelude.{◌≡◌, ℕ, ◌<◌, ◌&&◌, not, length, count_by, nat_lt, IfOk, IfErr, OnOk, Some, None};
 ghost use Rattle.std.specs.List.{list_any};
 ghost use Rattle.offer_model.specs.declared.ranges.TheConstants.{MOST_REQUIRES};

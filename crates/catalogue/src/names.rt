@@ -1,3 +1,4 @@
+//! What a name is.
 ghost use Rattle.std.specs.Prelude.{◌≡◌, false, IsTrue, IfSome, IfNone};
 ghost use Rattle.std.specs.List.{list_all};
 ghost use Rattle.catalogue.specs.Names.{is_name, is_name_byte};

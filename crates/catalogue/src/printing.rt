@@ -1,3 +1,4 @@
+//! A catalogue as a products file.
 ghost use Rattle.std.specs.Prelude.{◌≡◌, [], ◌++◌, ℕ, List, map, decimal, OnOk, IfOk};
 ghost use Rattle.csv.specs.Writing.{default_writer, row_text};
 ghost use Rattle.catalogue.specs.PrintedProducts.{product_fields, products_text, HasWritten, ReadsBack};

@@ -1,3 +1,4 @@
+//! The problem that a catalogue and its limits are.
 ghost use Rattle.std.specs.Prelude.{◌≡◌, ◌<◌, [], ◌∷◌, length, map, IfOk};
 ghost use Rattle.offer_model.specs.Validity.{IsPositiveAmount, IsRatioModel, HasLimits};
 ghost use Rattle.catalogue.specs.CatalogueProblems.{shadow_under, segment_of, problem_data_of, KeepsShadows};

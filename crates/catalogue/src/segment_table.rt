@@ -1,3 +1,4 @@
+//! The segments of a mixed model.
 ghost use Rattle.std.specs.Prelude.{◌≡◌, [], length};
 
 use offer_model::Segment;

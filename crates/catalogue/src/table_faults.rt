@@ -1,3 +1,4 @@
+//! Faults of a file that is no table, as faults of that file.
 ghost use Rattle.std.specs.Prelude.{◌≡◌};
 ghost use Rattle.catalogue.specs.Faults.{fault_of_table};
 

@@ -19,24 +19,6 @@ pub position_in_map : {X Y : Type 0} (f : X → Y) (p : Y → Bool) (xs : List X
 position_in_map f p [] = refl
 position_in_map f p (x ∷ xs) = rw (position_cons p (f x) (map f xs), position_cons (λ x. p (f x)) x xs, position_in_map f p xs) refl
 
--- The place where the test passes and before which it doesn't.
-pub position_first : {X : Type 0} (p : X → Bool) (xs : List X) (k : ℕ) (d : X) → k < length xs → p (get_or xs k d) ≡ true
-    → ((j : ℕ) → j < k → p (get_or xs j d) ≡ false) → position p xs ≡ Some k
-position_first p [] k d inside here before = absurd (omega arith)
-position_first p (x ∷ xs) zero d inside here before = rw (position_cons p x xs, here) refl
-position_first p (x ∷ xs) (suc k) d inside here before =
-    let miss : p x ≡ false = before 0 (omega arith) in
-    let rest = position_first p xs k d (omega arith) here (λ j h. before (suc j) (omega arith)) in
-    rw (position_cons p x xs, miss, rest) (ap Some (omega arith))
-
--- No place where the test passes nowhere.
-pub position_none : {X : Type 0} (p : X → Bool) (xs : List X) (d : X) → ((j : ℕ) → j < length xs → p (get_or xs j d) ≡ false) → position p xs ≡ None
-position_none p [] d nowhere = refl
-position_none p (x ∷ xs) d nowhere =
-    let miss : p x ≡ false = nowhere 0 (omega arith) in
-    let rest = position_none p xs d (λ j h. nowhere (suc j) (omega arith)) in
-    rw (position_cons p x xs, miss, rest) refl
-
 -- There is a place exactly where an element passes.
 pub position_there : {X : Type 0} (p : X → Bool) (xs : List X) → is_some (position p xs) ≡ list_any p xs
 position_there p [] = refl
@@ -52,6 +34,7 @@ pub position_kept : {X : Type 0} (p : X → Bool) (xs : List X) (y : X) → p y 
 position_kept p [] y miss = rw (position_cons p y [], miss) refl
 position_kept p (x ∷ xs) y miss = rw (position_cons p x (xs ++ y ∷ []), position_cons p x xs, position_kept p xs y miss) refl
 
+-- The place of an element put last, where the test failed before.
 pub position_new : {X : Type 0} (p : X → Bool) (xs : List X) (y : X) → list_any p xs ≡ false → p y ≡ true
     → position p (xs ++ y ∷ []) ≡ Some (length xs)
 position_new p [] y none here = rw (position_cons p y [], here) refl

@@ -1,3 +1,4 @@
+//! The faults of a file's records, in their order.
 ghost use Rattle.std.specs.Prelude.{◌≡◌, ◌<◌, ◌==◌, not, length, map, position, IfOk, IfErr, IfSome, OnOk, Some, None};
 ghost use Rattle.csv.specs.Records.{fields_of};
 ghost use Rattle.table_reader.specs.Tables.{AreDistinct, names_in, header_of, places_of};

@@ -1,3 +1,4 @@
+//! Where each column stands.
 ghost use Rattle.std.specs.Prelude.{◌≡◌, ◌<◌, length, slice_get, Some};
 
 use std::marker::Model;

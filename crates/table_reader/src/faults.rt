@@ -1,3 +1,4 @@
+//! What keeps a file from being a table.
 use offer_model::NoMemory;
 use thiserror::Error;
 

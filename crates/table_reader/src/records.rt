@@ -1,3 +1,4 @@
+//! The records of a file.
 ghost use Rattle.std.specs.Prelude.{◌≡◌, IfOk, map};
 ghost use Rattle.csv.specs.Records.{fields_of};
 ghost use Rattle.table_reader.specs.Records.{records_of};

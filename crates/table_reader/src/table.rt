@@ -1,3 +1,4 @@
+//! Tables, and how one is read.
 ghost use Rattle.std.specs.Prelude.{◌≡◌, ◌<◌, ◌↔◌, length, option_map, IsNone, IfOk, IfErr};
 ghost use Rattle.table_reader.specs.Records.{records_of};
 ghost use Rattle.table_reader.specs.Tables.{AreDistinct, names_in, HasNeeded, place_of, field_of};
