@@ -1,10 +1,9 @@
 -- Sets of names that are lent.
-use Rattle.std.proofs.Common.{map, ◌≡◌, ◌∙◌, ap, refl, ℕ, Option, length, position, unwrap_or, List, [], ◌∷◌, ◌++◌, Bool, true, false, Bor, if◌then◌else◌}
+use Rattle.std.proofs.Common.{map, ◌≡◌, refl, ℕ, List, [], ◌∷◌, ◌++◌, Bool, true, false, Bor, if◌then◌else◌}
 use Rattle.std.specs.List.{list_any, position_or_len}
 use Rattle.std.specs.Str.{bytes_eq}
 use Rattle.std.proofs.lemmas.List.{map-append}
 use Rattle.table_reader.specs.Tables.{is_among}
-use Rattle.catalogue.proofs.NameLemmas.{place_or_length}
 
 -- The bytes of names that are lent.
 abbrev pub lent_names : List (Bor (List ℕ)) → List (List ℕ)
@@ -15,22 +14,11 @@ pub lent_among : (name : List ℕ) (keys : List (Bor (List ℕ))) → list_any (
 lent_among name [] = refl
 lent_among name (k ∷ ks) = rw (lent_among name ks) refl
 
--- And the place that is found among them, or their number, is that of their bytes.
+-- And their places are those of their bytes.
 pub lent_place : (name : List ℕ) (keys : List (Bor (List ℕ)))
-    → unwrap_or (position (λ (key : Bor (List ℕ)). bytes_eq name key.now) keys) (length keys) ≡ position_or_len (bytes_eq name) (lent_names keys)
-lent_place name keys = place_or_length (λ (key : Bor (List ℕ)). bytes_eq name key.now) keys ∙ of_bytes keys
-  where
-    of_bytes : (keys : List (Bor (List ℕ)))
-        → position_or_len (λ (key : Bor (List ℕ)). bytes_eq name key.now) keys ≡ position_or_len (bytes_eq name) (lent_names keys)
-    of_bytes [] = refl
-    of_bytes (k ∷ ks) = rw (of_bytes ks) refl
-
--- The same for names that are seen as a list of bytes.
-pub place_found : (name : List ℕ) (keys : List (Bor (List ℕ))) (known : List (List ℕ)) (found : Option ℕ) (n place : ℕ) → lent_names keys ≡ known
-    → found ≡ position (λ (key : Bor (List ℕ)). bytes_eq name key.now) keys → n ≡ length keys → place ≡ unwrap_or found n
-    → place ≡ position_or_len (bytes_eq name) known
-place_found name keys known found n place view is count at =
-    at ∙ (λ i. unwrap_or (is i) (count i)) ∙ lent_place name keys ∙ ap (position_or_len (bytes_eq name)) view
+    → position_or_len (λ (key : Bor (List ℕ)). bytes_eq name key.now) keys ≡ position_or_len (bytes_eq name) (lent_names keys)
+lent_place name [] = refl
+lent_place name (k ∷ ks) = rw (lent_place name ks) refl
 
 -- A name is inserted as its bytes are.
 pub lent_inserted : (name : Bor (List ℕ)) (keys : List (Bor (List ℕ)))

@@ -1,7 +1,7 @@
 -- Names, and their numbers in order of first appearance.
 use Rattle.std.proofs.Common.{true≢false, ◌≡◌, ◌∙◌, sym, ap, refl, arith, ℕ, ◌+◌, ◌<◌, ◌≤◌, ◌==◌, ◌&&◌, ◌||◌, List, [], ◌∷◌, ◌++◌, length, take, drop, get_or, filter, Bool, true, false, not, cond, nat_le, Bor, Option, Some, None, option_map, IfSome, IfNone, IsTrue, Result, Ok, Err, MatchResult, append_assoc}
 use Rattle.std.specs.List.{position, position_or_len, list_any, list_all}
-use Rattle.std.specs.Option.{option_map_or, is_some, unwrap_or}
+use Rattle.std.specs.Option.{option_map_or, is_some}
 use Rattle.std.specs.Result.{result_ok}
 use Rattle.std.specs.Str.{bytes_eq, is_utf8, IsUtf8}
 use Rattle.std.proofs.lemmas.Bool.{false_from_ne_true}
@@ -136,30 +136,6 @@ position_stays p (x ∷ xs) ys found = rw (position_cons p x (xs ++ ys), positio
         ≡ cond (p x) (Some 0) (option_map (λ k. k + 1) (position p xs))
     by_first true here rest = rw here refl
     by_first false miss rest = rw (miss, rest (rw miss at found)) refl
-
--- The place of an element, or the length where it isn't there.
-pub place_or_length : {X : Type 0} (p : X → Bool) (xs : List X) → unwrap_or (position p xs) (length xs) ≡ position_or_len p xs
-place_or_length p [] = refl
-place_or_length p (x ∷ xs) = rw (position_cons p x xs) (by_first (p x) refl (more (position p xs) (place_or_length p xs)))
-  where
-    more : (o : Option ℕ) → unwrap_or o (length xs) ≡ position_or_len p xs
-        → unwrap_or (option_map (λ k. k + 1) o) (length (x ∷ xs)) ≡ position_or_len p xs + 1
-    more None rest = omega (arith, rest)
-    more (Some k) rest = ap (λ k. k + 1) rest
-
-    by_first : (b : Bool) → p x ≡ b → unwrap_or (option_map (λ k. k + 1) (position p xs)) (length (x ∷ xs)) ≡ position_or_len p xs + 1
-        → unwrap_or (cond (p x) (Some 0) (option_map (λ k. k + 1) (position p xs))) (length (x ∷ xs)) ≡ position_or_len p (x ∷ xs)
-    by_first true here rest = rw here refl
-    by_first false miss rest = rw miss (rest ∙ omega arith)
-
--- That is at most the length.
-pub place_within : {X : Type 0} (p : X → Bool) (xs : List X) → position_or_len p xs ≤ length xs
-place_within p [] = omega arith
-place_within p (x ∷ xs) = by_first (p x) refl (place_within p xs)
-  where
-    by_first : (b : Bool) → p x ≡ b → position_or_len p xs ≤ length xs → position_or_len p (x ∷ xs) ≤ length (x ∷ xs)
-    by_first true here rest = rw here (omega arith)
-    by_first false miss rest = rw miss (omega (arith, rest))
 
 -- An element that goes last unless one like it is there has the place that it was found at, or the last.
 pub position_inserted : {X : Type 0} (p : X → Bool) (xs : List X) (y : X) → p y ≡ true

@@ -1,33 +1,17 @@
 //! The names that rows gave, each once.
-ghost use Rattle.std.specs.Prelude.{◌≡◌, ◌<◌, ℕ, List, [], ◌∷◌, ◌++◌, length, position, if◌then◌else◌, IfOk, OnOk};
-ghost use Rattle.std.specs.List.{list_any};
-ghost use Rattle.std.specs.Str.{bytes_eq};
+ghost use Rattle.std.specs.Prelude.{◌≡◌, ◌<◌, ℕ, List, [], ◌∷◌, ◌++◌, length, if◌then◌else◌, IfOk, OnOk};
 ghost use Rattle.table_reader.specs.Tables.{is_among};
 ghost use Rattle.catalogue.specs.Names.{distinct_names, number_in};
 
+use indexmap::IndexSet;
 use offer_model::{MOST_PRODUCTS, NoMemory};
 use std::alloc::Global;
 use std::marker::Model;
 
-/// Whether the name is one of these.
-fn is_among(name: &[u8], names: &[&[u8]]) -> bool
-    ensures { result ≡ list_any (λ known. bytes_eq name.now known.now) names.now }
-{
-    names.iter().any(|known| name == *known)
-}
-
-/// The place of the name among these, if it is there.
-fn place_among(name: &[u8], names: &[&[u8]]) -> Option<usize>
-    ensures { result ≡ position (λ known. bytes_eq name.now known.now) names.now }
-{
-    names.iter().position(|known| name == *known)
-}
-
-/// The names that a file's rows gave so far, each once, in order of first appearance. There are at most `MOST_PRODUCTS`, so
-/// that a look-up goes over them.
+/// The names that a file's rows gave so far, each once, in order of first appearance.
 #[derive(Drop)]
 pub struct NameSet<'a> {
-    names: Vec<&'a [u8]>,
+    names: IndexSet<&'a [u8]>,
 }
 
 impl<'a> Model for NameSet<'a> {
@@ -36,7 +20,7 @@ impl<'a> Model for NameSet<'a> {
 
     ghost Value = { List (List ℕ) };
 
-    ghost view = { λ s. map (λ (name : Bor (List ℕ)). name.now) s.names.items };
+    ghost view = { λ s. map (λ (name : Bor (List ℕ)). name.now) s.names.keys };
 }
 
 impl<'a> NameSet<'a> {
@@ -45,7 +29,7 @@ impl<'a> NameSet<'a> {
         ensures { result ≡ [] }
     {
         NameSet {
-            names: Vec::new(alloc),
+            names: IndexSet::new(alloc),
         }
     }
 
@@ -53,7 +37,7 @@ impl<'a> NameSet<'a> {
     pub fn contains(&self, name: &[u8]) -> bool
         ensures { result ≡ is_among name.now self.now }
     {
-        is_among(name, &self.names)
+        self.names.contains(name)
     }
 
     /// Puts a name last, unless it is there.
@@ -61,9 +45,7 @@ impl<'a> NameSet<'a> {
         ensures { OnOk result
             (self.new ≡ (if is_among name.now self.old then self.old else self.old ++ name.now ∷ [])) }
     {
-        if !self.contains(name) {
-            self.names.push(name)?;
-        }
+        self.names.insert(name)?;
         Ok(())
     }
 
@@ -78,8 +60,7 @@ impl<'a> NameSet<'a> {
         if name.is_empty() {
             return Ok(0);
         }
-        let place = place_among(name, &self.names).unwrap_or(self.names.len());
-        self.insert(name)?;
+        let (place, _) = self.names.insert_full(name)?;
         Ok(place as u32 + 1)
     }
 }

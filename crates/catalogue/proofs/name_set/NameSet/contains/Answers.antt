@@ -4,4 +4,4 @@ use Rattle.catalogue.proofs.LentNameLemmas.{lent_among}
 use Rattle.catalogue.proofs.name_set.NameSet.contains.Goals as goal
 
 pub returns : goal.returns
-returns c = rw c.deref.ensures.value at c.is_among.ensures ∙ lent_among c.args.name.now c.self.inside.names.items ∙ ap (is_among c.args.name.now) c.self.view_is
+returns c = c.contains.ensures ∙ lent_among c.args.name.now c.self.inside.names.keys ∙ ap (is_among c.args.name.now) c.self.view_is
