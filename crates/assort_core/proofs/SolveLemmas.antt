@@ -9,7 +9,7 @@ use Rattle.assort_core.specs.declared.stops.Stop.{Stop}
 use Rattle.assort_core.specs.declared.stops.Stop.TheVariants.{UnwrittenProof, NoMemory}
 use Rattle.assort_words.specs.declared.usage.Command.{Command}
 use Rattle.assort_words.specs.declared.usage.Command.TheVariants.{Solve}
-use Rattle.assort_words.specs.Asked.{RequestData}
+use Rattle.assort_words.specs.Asked.{RequestData, asked_proof}
 use Rattle.assort_core.specs.Judged.{InputsData, asked_problem}
 use Rattle.assort_core.specs.Outcomes.{IsAnswerTo, IsDone, IsBestReport, answer}
 use Rattle.assort_reports.specs.Reports.{problem_report}
@@ -34,7 +34,7 @@ best_report r i p best report e b is = record {
 }
 
 -- why a proof could not be written
-pub why_unwritten : (r : RequestData) (old mid new : StoreView) (name report : List ℕ) (stop : Stop) → r.command ≡ Solve → r.proof ≡ Some name
+pub why_unwritten : (r : RequestData) (old mid new : StoreView) (name report : List ℕ) (stop : Stop) → r.command ≡ Solve → asked_proof r ≡ Some name
     → Passes old mid → (IsTrue old.tells → IsAnswerTo r old.file (answer 0 report))
     → (stop ≡ UnwrittenProof) ⊎ (stop ≡ NoMemory) → (stop ≡ UnwrittenProof → Rose mid.faults new.faults)
     → (stop ≡ UnwrittenProof → IsTrue mid.steady → ⊥) → WhyStopped r old new stop
@@ -47,17 +47,17 @@ why_unwritten r old mid new name report stop solve proof passes reports (inl e) 
 why_unwritten r old mid new name report stop solve proof passes reports (inr e) rose steady = rw e tt
 
 -- nothing is asked for
-pub proof_unasked : (r : RequestData) (old new : StoreView) → r.proof ≡ None → ProofStands r old new
+pub proof_unasked : (r : RequestData) (old new : StoreView) → asked_proof r ≡ None → ProofStands r old new
 proof_unasked r old new none = λ told other asks. let e : Some other ≡ None = sym asks.name_is ∙ none in cc
 
-pub unasked_sealed : (r : RequestData) (new : StoreView) → r.proof ≡ None → ProofIsSealed r new
+pub unasked_sealed : (r : RequestData) (new : StoreView) → asked_proof r ≡ None → ProofIsSealed r new
 unasked_sealed r new none = λ other asks. let e : Some other ≡ None = sym asks.name_is ∙ none in cc
 
 -- the name that is asked for is the request's
-asked_name : (r : RequestData) (name other : List ℕ) → r.proof ≡ Some name → AsksForProof r other → other ≡ name
+asked_name : (r : RequestData) (name other : List ℕ) → asked_proof r ≡ Some name → AsksForProof r other → other ≡ name
 asked_name r name other is asks = let e : Some other ≡ Some name = sym asks.name_is ∙ is in cc
 
-pub proof_stands : (r : RequestData) (old mid new : StoreView) (i : InputsData) (p : ProblemData) (name : List ℕ) → r.proof ≡ Some name
+pub proof_stands : (r : RequestData) (old mid new : StoreView) (i : InputsData) (p : ProblemData) (name : List ℕ) → asked_proof r ≡ Some name
     → p ≡ asked_problem r i → new.tells ≡ old.tells → (IsTrue old.tells → Gives r old i) → HoldsProof p name new → ProofStands r old new
 proof_stands r old mid new i p name is e tells there holds = λ told other asks.
     let h = holds (rw tells told) in
@@ -72,7 +72,7 @@ pub on_err : {T E : Type 0} (result : Result T E) (P : Type 0) → P → OnErr r
 on_err (Ok x) P p = tt
 on_err (Err e) P p = p
 
-pub proof_may_stand : (r : RequestData) (old mid new : StoreView) (i : InputsData) (p : ProblemData) (name : List ℕ) → r.proof ≡ Some name
+pub proof_may_stand : (r : RequestData) (old mid new : StoreView) (i : InputsData) (p : ProblemData) (name : List ℕ) → asked_proof r ≡ Some name
     → p ≡ asked_problem r i → Passes old mid → (IsTrue old.tells → Gives r old i) → HoldsPart p name mid new → ProofMayStand r old new
 proof_may_stand r old mid new i p name is e passes there holds = λ told other asks.
     let same = (passes.files told).file in

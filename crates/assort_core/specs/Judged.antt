@@ -13,14 +13,14 @@ use Rattle.catalogue.specs.Rows.{RowData}
 use Rattle.catalogue.specs.ProductTables.{products_outcome}
 use Rattle.catalogue.specs.LimitTables.{limits_outcome}
 use Rattle.catalogue.specs.CatalogueProblems.{problem_data_of}
-use Rattle.assort_words.specs.Asked.{RequestData}
+use Rattle.assort_words.specs.Asked.{RequestData, asked_model, asked_products, asked_limits, asked_none, asked_proof}
 
 -- The names of the products file and of the proof.
 abbrev pub products_name : RequestData → List ℕ
-products_name r = unwrap_or r.products []
+products_name r = unwrap_or (asked_products r) []
 
 abbrev pub proof_name : RequestData → List ℕ
-proof_name r = unwrap_or r.proof []
+proof_name r = unwrap_or (asked_proof r) []
 
 -- What files give: something, or a fault. None where a file isn't there, since its read fails.
 abbrev pub Given : Type 0 → Type 0
@@ -47,11 +47,11 @@ pub record InputsData : Type 0 where
 
 -- What the products file gives.
 abbrev pub given_products : RequestData → (List ℕ → Option (List ℕ)) → Given (List RowData)
-given_products r file = given_by Products (products_outcome (unwrap_or r.model Logit)) (file (products_name r))
+given_products r file = given_by Products (products_outcome (unwrap_or (asked_model r) Logit)) (file (products_name r))
 
 -- What the limits file gives over the catalogue's rows. Without one there are no limits.
 abbrev pub given_limits : RequestData → (List ℕ → Option (List ℕ)) → List RowData → Given (List Limit)
-given_limits r file rows = from r.limits
+given_limits r file rows = from (asked_limits r)
   where
     from : Option (List ℕ) → Given (List Limit)
     from None = Some (Ok [])
@@ -64,4 +64,4 @@ judged r file = and_given (given_products r file) (λ rows.
 
 -- The problem of a request over what its files give.
 abbrev pub asked_problem : RequestData → InputsData → ProblemData
-asked_problem r i = problem_data_of i.rows (unwrap_or r.model Logit) (unwrap_or r.none 0) 1 i.limits
+asked_problem r i = problem_data_of i.rows (unwrap_or (asked_model r) Logit) (unwrap_or (asked_none r) 0) 1 i.limits

@@ -1,25 +1,15 @@
 -- The lines for standard error. Own.
 use Rattle.std.specs.Prelude.{ℕ, List, [], ◌++◌, slice_index_or, codes, decimal}
-use Rattle.assort_words.specs.declared.usage.Key.{Key}
-use Rattle.assort_words.specs.declared.usage.Key.TheVariants as key
+use Rattle.assort_words.specs.Keys.{text_of}
 use Rattle.assort_words.specs.declared.usage.UsageFault.{UsageFault}
 use Rattle.assort_words.specs.declared.usage.UsageCode.{UsageCode}
-use Rattle.assort_words.specs.declared.usage.UsageCode.TheVariants.{NoCommand, UnknownCommand, UnknownOption, RepeatedOption, MissingValue, Nested, BadValue, MissingOption, ProofIsInput}
+use Rattle.assort_words.specs.declared.usage.UsageCode.TheVariants.{NoCommand, UnknownCommand, UnknownOption, RepeatedOption, MissingValue, Nested, BadValue, MissingOption, UnusedOption, ProofIsInput}
 use Rattle.catalogue.specs.declared.faults.FileName.{FileName}
 use Rattle.catalogue.specs.declared.faults.FileName.TheVariants.{Products, Limits, Segments, Arcs, Proof as ProofFile, Offer}
 use Rattle.catalogue.specs.declared.faults.Code.{Code}
 use Rattle.catalogue.specs.declared.faults.Code.TheVariants.{BadName, BadNumber, OutOfRange, RepeatedName, UnknownName, UnknownKind, RepeatedLimit, ShadowAbove, TooManyProducts, TooManyLines, SizesTooGreat, NoArrivals, NoLeaving, UnknownColumn, RepeatedColumn, MissingColumn, FieldCount, TooLarge, WrongLength}
 use Rattle.catalogue.specs.ProductTables.{product_columns}
 use Rattle.catalogue.specs.LimitTables.{limit_columns}
-
--- A key as it is written.
-abbrev pub key_text : Key → List ℕ
-key_text key.Model = codes "--model"
-key_text key.Products = codes "--products"
-key_text key.Limits = codes "--limits"
-key_text key.NoneWeight = codes "--none"
-key_text key.Proof = codes "--proof"
-key_text key.NoKey = []
 
 -- What is wrong with the words, without the place.
 abbrev pub cause_text : UsageCode → List ℕ
@@ -31,13 +21,15 @@ cause_text MissingValue = codes "missing value"
 cause_text Nested = codes "nested logit is not supported"
 cause_text BadValue = codes "bad value"
 cause_text MissingOption = codes "missing option "
+cause_text UnusedOption = codes "option "
 cause_text ProofIsInput = codes "proof names an input"
 
--- The place: nothing without a command, the key that is missing, else the word.
+-- The place: nothing without a command, the key that is missing or not used, else the word.
 abbrev pub place_text : UsageFault → UsageCode → List ℕ
 place_text f NoCommand = []
 place_text f ProofIsInput = []
-place_text f MissingOption = key_text f.key
+place_text f MissingOption = text_of f.key
+place_text f UnusedOption = text_of f.key ++ codes " is not for this model"
 place_text f UnknownCommand = codes " at word " ++ decimal f.word
 place_text f UnknownOption = codes " at word " ++ decimal f.word
 place_text f RepeatedOption = codes " at word " ++ decimal f.word

@@ -11,7 +11,7 @@ use Rattle.proof_lines.specs.Trees.{Tree}
 use Rattle.proof_lines.specs.Acceptance.{IsAccepted}
 use Rattle.proof_lines.specs.Writing.{IsWritten}
 use Rattle.assort_words.specs.declared.usage.Command.TheVariants.{Solve, Check}
-use Rattle.assort_words.specs.Asked.{RequestData}
+use Rattle.assort_words.specs.Asked.{RequestData, asked_limits, asked_proof}
 use Rattle.assort_core.specs.Lines.{unread_line, unwritten_line, unwritten_proof_line}
 use Rattle.assort_core.specs.Judged.{InputsData, given_products, judged, asked_problem, products_name, proof_name}
 use Rattle.assort_core.specs.Outcomes.{Outcome, IsOutcome, IsAnswerTo, answer, most_proof}
@@ -52,7 +52,7 @@ Gives r store i = judged r store.file ≡ Some (Ok i)
 -- The request asks for a proof of this name.
 pub record AsksForProof (r : RequestData) (name : List ℕ) : Type 0 where
   pub command : r.command ≡ Solve
-  pub name_is : r.proof ≡ Some name
+  pub name_is : asked_proof r ≡ Some name
 
 -- The content is a proof for the problem of the request.
 abbrev pub IsProofFile : RequestData → StoreView → Option (List ℕ) → Type 0
@@ -95,7 +95,7 @@ pub record CannotRead (name : List ℕ) (store store' : StoreView) : Type 0 wher
 
 -- The limits can't be read: they are asked for, and the products file has no fault.
 pub record CannotReadLimits (r : RequestData) (store store' : StoreView) : Type 0 where
-  pub fails : (name : List ℕ) × (r.limits ≡ Some name) × CannotRead name store store'
+  pub fails : (name : List ℕ) × (asked_limits r ≡ Some name) × CannotRead name store store'
   pub before : IsTrue store.tells → (rows : List RowData) × (given_products r store.file ≡ Some (Ok rows))
 
 -- The proof can't be read: `check` asks for it, and the files before it have no fault.
@@ -115,7 +115,7 @@ CannotReadFile r Offer store store' = ⊥
 
 -- The proof can't be written: `solve` asks for it and has its report, and a call of the store failed, which is not steady.
 pub record CannotWriteProof (r : RequestData) (store store' : StoreView) : Type 0 where
-  pub asked : (r.command ≡ Solve) × ((name : List ℕ) × (r.proof ≡ Some name))
+  pub asked : (r.command ≡ Solve) × ((name : List ℕ) × (asked_proof r ≡ Some name))
   pub cause : Rose store.faults store'.faults
   pub unsteady : IsTrue store.steady → ⊥
   pub before : IsTrue store.tells → (report : List ℕ) × IsAnswerTo r store.file (answer 0 report)
@@ -155,7 +155,7 @@ pub record IsAnswerable (r : RequestData) (store : StoreView) : Type 0 where
 -- The names of the files that a request reads are held.
 abbrev pub HoldsInputs : RequestData → StoreView → Type 0
 HoldsInputs r store = Contains store.held (products_name r)
-    × ((name : List ℕ) → r.limits ≡ Some name → Contains store.held name)
+    × ((name : List ℕ) → asked_limits r ≡ Some name → Contains store.held name)
     × (r.command ≡ Check → Contains store.held (proof_name r))
 
 -- The proof that was checked is there, and its assortment is the best one.

@@ -5,7 +5,7 @@ ghost use Rattle.offer_model.specs.declared.products.ModelName.TheVariants as mo
 ghost use Rattle.offer_model.specs.Validity.{HasLimits};
 ghost use Rattle.offer_io.specs.Stores.{Passes};
 ghost use Rattle.catalogue.specs.CatalogueProblems.{KeepsShadows, problem_data_of};
-ghost use Rattle.assort_words.specs.Asked.{IsComplete};
+ghost use Rattle.assort_words.specs.Asked.{IsComplete, asked_model};
 ghost use Rattle.assort_core.specs.Judged.{asked_problem, given_products, given_limits};
 ghost use Rattle.assort_core.specs.Runs.{Gives};
 ghost use Rattle.assort_core.specs.Stops.{WhyStopped, WhyUnloaded};
@@ -59,7 +59,7 @@ fn read_catalogue<S: Store>(
     ensures passes { Passes (S.view store.old) (S.view store.new) }
     ensures rows { IfOk result (λ c. IsTrue (S.view store.old).tells
         → given_products request.now (S.view store.old).file ≡ Some (Ok c)) }
-    ensures shadows { IfOk result (λ c. unwrap_or request.now.model model.Logit ≡ model.Attract → KeepsShadows c) }
+    ensures shadows { IfOk result (λ c. unwrap_or (asked_model request.now) model.Logit ≡ model.Attract → KeepsShadows c) }
     ensures stopped { IfErr result (WhyStopped request.now (S.view store.old) (S.view store.new)) }
 {
     let Some(name) = request.products() else {
@@ -115,7 +115,7 @@ fn problem_asked(
     limits: &Limits,
 ) -> Result<Problem, NoMemory>
     requires complete { IsComplete request.now }
-    requires shadows { unwrap_or request.now.model model.Logit ≡ model.Attract → KeepsShadows c.now }
+    requires shadows { unwrap_or (asked_model request.now) model.Logit ≡ model.Attract → KeepsShadows c.now }
     requires limits { (model : ModelName) (none unit : ℕ) → HasLimits (problem_data_of c.now model none unit limits.now.items) }
     ensures { IfOk result (λ p. p ≡ asked_problem request.now (record { rows = c.now; limits = limits.now.items })) }
 {

@@ -1,27 +1,14 @@
+//! The line for words that are refused.
 ghost use Rattle.std.specs.Prelude.{◌≡◌, ◌++◌, ◌+◌, ◌≤◌, length};
 ghost use Rattle.arrayvec.specs.ArrayString.{array_string_len};
-ghost use Rattle.assort_core.specs.Lines.{key_text, cause_text, place_text, usage_line};
+ghost use Rattle.assort_core.specs.Lines.{cause_text, place_text, usage_line};
 
 use arrayvec::ArrayString;
-use assort_words::{Key, UsageCode, UsageFault};
+use assort_words::{UsageCode, UsageFault};
 use itoa::Buffer;
 
 /// A line for standard error. The longest that there is fits.
 pub(crate) type ErrorLine = ArrayString<128>;
-
-fn key_text(key: Key) -> &'static str
-    ensures text { result.now ≡ key_text key }
-    ensures short { length result.now ≤ 10 }
-{
-    match key {
-        Key::Model => "--model",
-        Key::Products => "--products",
-        Key::Limits => "--limits",
-        Key::NoneWeight => "--none",
-        Key::Proof => "--proof",
-        Key::NoKey => "",
-    }
-}
 
 fn cause_text(code: UsageCode) -> &'static str
     ensures text { result.now ≡ cause_text code }
@@ -36,6 +23,7 @@ fn cause_text(code: UsageCode) -> &'static str
         UsageCode::Nested => "nested logit is not supported",
         UsageCode::BadValue => "bad value",
         UsageCode::MissingOption => "missing option ",
+        UsageCode::UnusedOption => "option ",
         UsageCode::ProofIsInput => "proof names an input",
     }
 }
@@ -48,7 +36,11 @@ fn push_place(line: &mut ErrorLine, fault: &UsageFault)
 {
     match fault.code {
         UsageCode::NoCommand | UsageCode::ProofIsInput => {}
-        UsageCode::MissingOption => line.push_str(key_text(fault.key)),
+        UsageCode::MissingOption => line.push_str(fault.key.text()),
+        UsageCode::UnusedOption => {
+            line.push_str(fault.key.text());
+            line.push_str(" is not for this model");
+        }
         _ => {
             line.push_str(" at word ");
             line.push_str(Buffer::new().format(fault.word));

@@ -1,6 +1,7 @@
 //! The words of a command line: the request that they make, or their first refusal.
 #![tactic(auto)]
 
+mod keys;
 mod request;
 mod usage;
 mod values;

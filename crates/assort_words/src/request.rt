@@ -1,91 +1,67 @@
-ghost use Rattle.std.specs.Prelude.{◌≡◌};
+//! What is asked for: a command, and the word that is given for each key.
+ghost use Rattle.std.specs.Prelude.{◌≡◌, IfSome, IsTrue};
 ghost use Rattle.std.specs.Option.{option_copied};
+ghost use Rattle.offer_model.specs.Validity.{IsPositiveAmount, IsRatioModel};
+ghost use Rattle.assort_words.specs.Keys.{domain_of, is_in_domain};
+ghost use Rattle.assort_words.specs.Asked.{IsInDomains, bare_request, word_of, with_word, is_given, asked_model, asked_products, asked_limits, asked_none, asked_proof};
 
+use crate::keys::KEY_SLOTS;
 use crate::usage::{Command, Key};
-use crate::values::{read_amount, read_model, read_name};
-use offer_model::ModelName;
+use crate::values::{read_model, read_within};
+use offer_model::{MOST_AMOUNT, ModelName};
 use std::marker::Model;
 
 /// What is asked for. It borrows its texts from the words.
 #[derive(Drop)]
 pub struct Request<'a> {
-    pub(crate) command: Command,
-    pub(crate) model: Option<ModelName>,
-    pub(crate) products: Option<&'a str>,
-    pub(crate) limits: Option<&'a str>,
-    pub(crate) none: Option<u64>,
-    pub(crate) proof: Option<&'a str>,
+    command: Command,
+    words: [Option<&'a str>; KEY_SLOTS],
 }
 
 impl<'a> Model for Request<'a> {
+    ghost use Rattle.std.specs.Prelude.{map};
     ghost use Rattle.std.specs.Option.{option_copied};
     ghost use Rattle.assort_words.specs.Asked.{RequestData, IsInDomains};
 
     ghost Value = { RequestData };
 
-    ghost view = { λ r. record { command = r.command; model = r.model; products = option_copied r.products; limits = option_copied r.limits; none = r.none; proof = option_copied r.proof } };
+    ghost view = { λ r. record { command = r.command; words = map option_copied r.words } };
 
-    ghost invariant = { λ r. IsInDomains (record { command = r.command; model = r.model; products = option_copied r.products; limits = option_copied r.limits; none = r.none; proof = option_copied r.proof }) };
+    ghost invariant = { λ r. IsInDomains (record { command = r.command; words = map option_copied r.words }) };
 }
 
 impl<'a> Request<'a> {
-    ghost use Rattle.assort_words.specs.Asked.{bare_request, with_value, is_given, IsInDomains};
-
     /// A command, and no key yet.
     pub(crate) fn bare(command: Command) -> Request<'a>
         ensures { result ≡ bare_request command }
     {
         Request {
             command,
-            model: None,
-            products: None,
-            limits: None,
-            none: None,
-            proof: None,
+            words: [None; KEY_SLOTS],
         }
     }
 
-    /// Whether the key is given.
+    /// The word that is given for the key.
+    pub(crate) fn word(&self, key: Key) -> Option<&'a str>
+        ensures value { option_copied result ≡ word_of self.now key }
+        ensures valid { IsInDomains self.now }
+    {
+        self.words[key.index()]
+    }
+
     pub(crate) fn has(&self, key: Key) -> bool
         ensures { result ≡ is_given self.now key }
     {
-        match key {
-            Key::Model => self.model.is_some(),
-            Key::Products => self.products.is_some(),
-            Key::Limits => self.limits.is_some(),
-            Key::NoneWeight => self.none.is_some(),
-            Key::Proof => self.proof.is_some(),
-            Key::NoKey => false,
-        }
+        self.word(key).is_some()
     }
 
-    /// The request with one more key, where the word is one of the key's values.
-    pub(crate) fn with_value(self, key: Key, word: &'a str) -> Option<Request<'a>>
-        ensures { result ≡ with_value self.entry key word.now }
+    /// The request with one more word, which is one of the key's values.
+    pub(crate) fn with_word(mut self, key: Key, word: &'a str) -> Request<'a>
+        requires { IsTrue (is_in_domain (domain_of key) word.now) }
+        ensures { result ≡ with_word self.entry key word.now }
     {
-        match key {
-            Key::Model => Some(Request {
-                model: Some(read_model(word)?),
-                ..self
-            }),
-            Key::Products => Some(Request {
-                products: Some(read_name(word)?),
-                ..self
-            }),
-            Key::Limits => Some(Request {
-                limits: Some(read_name(word)?),
-                ..self
-            }),
-            Key::NoneWeight => Some(Request {
-                none: Some(read_amount(word)?),
-                ..self
-            }),
-            Key::Proof => Some(Request {
-                proof: Some(read_name(word)?),
-                ..self
-            }),
-            Key::NoKey => None,
-        }
+        self.words[key.index()] = Some(word);
+        self
     }
 
     pub fn command(&self) -> Command
@@ -94,39 +70,37 @@ impl<'a> Request<'a> {
         self.command
     }
 
-    /// `None` exactly where the key isn't given; so do the next two.
+    /// `None` exactly where the key isn't given; so do the next four.
     pub fn model(&self) -> Option<ModelName>
-        ensures value { result ≡ self.now.model }
+        ensures value { result ≡ asked_model self.now }
+        ensures ratio { IfSome result IsRatioModel }
         ensures valid { IsInDomains self.now }
     {
-        self.model
+        read_model(self.word(Key::Model)?)
     }
 
     pub fn products(&self) -> Option<&'a str>
-        ensures value { option_copied result ≡ self.now.products }
-        ensures valid { IsInDomains self.now }
+        ensures { option_copied result ≡ asked_products self.now }
     {
-        self.products
+        self.word(Key::Products)
     }
 
     pub fn limits(&self) -> Option<&'a str>
-        ensures value { option_copied result ≡ self.now.limits }
-        ensures valid { IsInDomains self.now }
+        ensures { option_copied result ≡ asked_limits self.now }
     {
-        self.limits
+        self.word(Key::Limits)
     }
 
     pub fn none(&self) -> Option<u64>
-        ensures value { result ≡ self.now.none }
-        ensures valid { IsInDomains self.now }
+        ensures value { result ≡ asked_none self.now }
+        ensures valid { IfSome result IsPositiveAmount }
     {
-        self.none
+        read_within(self.word(Key::NoneWeight)?, 1, MOST_AMOUNT)
     }
 
     pub fn proof(&self) -> Option<&'a str>
-        ensures value { option_copied result ≡ self.now.proof }
-        ensures valid { IsInDomains self.now }
+        ensures { option_copied result ≡ asked_proof self.now }
     {
-        self.proof
+        self.word(Key::Proof)
     }
 }

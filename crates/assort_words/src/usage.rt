@@ -1,3 +1,4 @@
+//! Commands, keys and refusals.
 /// What the program is asked to do.
 #[derive(Clone, Copy, Debug, PartialEq, Eq)]
 pub enum Command {
@@ -30,6 +31,8 @@ pub enum UsageCode {
     Nested,
     BadValue,
     MissingOption,
+    /// A key that the model doesn't use.
+    UnusedOption,
     /// The proof has the name of a file that is read.
     ProofIsInput,
 }
@@ -40,6 +43,6 @@ pub struct UsageFault {
     pub code: UsageCode,
     /// Words are counted from 1; 0 where the fault is at no word.
     pub word: usize,
-    /// The key that is missing, else `NoKey`.
+    /// The key that is missing or not used, else `NoKey`.
     pub key: Key,
 }

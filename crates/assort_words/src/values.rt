@@ -1,13 +1,13 @@
-ghost use Rattle.std.specs.Prelude.{◌≡◌, IfSome};
-ghost use Rattle.std.specs.Option.{option_copied};
-ghost use Rattle.offer_model.specs.Validity.{IsPositiveAmount, IsRatioModel};
-ghost use Rattle.assort_words.specs.Asked.{model_of, name_of, amount_of};
+//! The values of keys, read from their words.
+ghost use Rattle.std.specs.Prelude.{◌≡◌, ◌≤◌, IfSome};
+ghost use Rattle.offer_model.specs.Validity.{IsRatioModel};
+ghost use Rattle.assort_words.specs.Keys.{model_of, number_within};
 
-use offer_model::{MOST_AMOUNT, ModelName, read_number};
+use offer_model::{ModelName, read_number};
 
 pub(crate) fn read_model(word: &str) -> Option<ModelName>
     ensures value { result ≡ model_of word.now }
-    ensures valid { IfSome result IsRatioModel }
+    ensures ratio { IfSome result IsRatioModel }
 {
     if word == "logit" {
         return Some(ModelName::Logit);
@@ -18,21 +18,13 @@ pub(crate) fn read_model(word: &str) -> Option<ModelName>
     None
 }
 
-pub(crate) fn read_name(word: &str) -> Option<&str>
-    ensures { option_copied result ≡ name_of word.now }
-{
-    if word.is_empty() {
-        return None;
-    }
-    Some(word)
-}
-
-pub(crate) fn read_amount(word: &str) -> Option<u64>
-    ensures value { result ≡ amount_of word.now }
-    ensures valid { IfSome result IsPositiveAmount }
+/// A number between two bounds.
+pub(crate) fn read_within(word: &str, low: u64, high: u64) -> Option<u64>
+    ensures value { result ≡ number_within low high word.now }
+    ensures bounds { IfSome result (λ n. (low ≤ n) × (n ≤ high)) }
 {
     let number = read_number(word.as_bytes())?;
-    if number < 1 || number > u128::from(MOST_AMOUNT) {
+    if number < u128::from(low) || number > u128::from(high) {
         return None;
     }
     Some(number as u64)

@@ -1,11 +1,15 @@
-ghost use Rattle.std.specs.Prelude.{◌≡◌, ◌+◌, ◌-◌, ◌<◌, ◌≤◌, ◌^◌, length, slice_get, Some, None, IsSome, IfOk, drop};
+//! Words read in pairs of a key and its word, and what a request has to have.
+ghost use Rattle.std.specs.Prelude.{◌≡◌, ◌+◌, ◌-◌, ◌<◌, ◌≤◌, length, unwrap_or, IfOk, drop};
+ghost use Rattle.std.specs.List.{find};
 ghost use Rattle.std.specs.Option.{option_copied};
-ghost use Rattle.offer_model.specs.Numerals.{number_of};
-ghost use Rattle.assort_words.specs.Asked.{RequestData, asked_of, bare_request, command_of, key_of, model_of, name_of, amount_of, is_given, with_value, new_key, new_value, with_pairs, completed, is_named, proof_is_input, IsComplete};
+ghost use Rattle.offer_model.specs.declared.products.ModelName.TheVariants as name;
+ghost use Rattle.assort_words.specs.Keys.{keys};
+ghost use Rattle.assort_words.specs.Asked.{asked_of, bare_request, command_of, key_of, asked_model, new_key, new_word, with_pairs, is_missing, is_unused, completed, is_named, proof_is_input, IsComplete};
 
+use crate::keys::{Domain, KEYS};
 use crate::request::Request;
 use crate::usage::{Command, Key, UsageCode, UsageFault};
-use offer_model::Texts;
+use offer_model::{ModelName, Texts};
 
 fn refused_at(code: UsageCode, word: usize) -> UsageFault
     ensures { result ≡ record { code = code; word = word; key = Key.NoKey } }
@@ -17,14 +21,10 @@ fn refused_at(code: UsageCode, word: usize) -> UsageFault
     }
 }
 
-fn missing(key: Key) -> UsageFault
-    ensures { result ≡ record { code = UsageCode.MissingOption; word = 0; key = key } }
+fn refused_for(code: UsageCode, key: Key) -> UsageFault
+    ensures { result ≡ record { code = code; word = 0; key = key } }
 {
-    UsageFault {
-        code: UsageCode::MissingOption,
-        word: 0,
-        key,
-    }
+    UsageFault { code, word: 0, key }
 }
 
 fn read_command(word: &str) -> Option<Command>
@@ -39,32 +39,20 @@ fn read_command(word: &str) -> Option<Command>
     None
 }
 
-fn read_key(word: &str) -> Option<Key>
-    ensures { result ≡ key_of word.now }
+/// The key of the command that a word names.
+fn read_key(command: Command, word: &str) -> Option<Key>
+    ensures { result ≡ key_of command word.now }
 {
-    if word == "--model" {
-        return Some(Key::Model);
-    }
-    if word == "--products" {
-        return Some(Key::Products);
-    }
-    if word == "--limits" {
-        return Some(Key::Limits);
-    }
-    if word == "--none" {
-        return Some(Key::NoneWeight);
-    }
-    if word == "--proof" {
-        return Some(Key::Proof);
-    }
-    None
+    KEYS.iter()
+        .copied()
+        .find(|key| key.use_by(command).is_known() && key.text() == word)
 }
 
 /// The key of the word at place `p`, which is new.
 fn new_key(request: &Request<'_>, p: usize, word: &str) -> Result<Key, UsageFault>
     ensures { result ≡ new_key request.now p word.now }
 {
-    let Some(key) = read_key(word) else {
+    let Some(key) = read_key(request.command(), word) else {
         return Err(refused_at(UsageCode::UnknownOption, p));
     };
     if request.has(key) {
@@ -73,22 +61,23 @@ fn new_key(request: &Request<'_>, p: usize, word: &str) -> Result<Key, UsageFaul
     Ok(key)
 }
 
-/// The request with the value at place `p` for the key.
-fn new_value<'a>(
+/// The request with the word at place `p` for the key.
+fn new_word<'a>(
     request: Request<'a>,
     key: Key,
     p: usize,
     word: &'a str,
 ) -> Result<Request<'a>, UsageFault>
-    ensures { result ≡ new_value request.entry key p word.now }
+    ensures { result ≡ new_word request.entry key p word.now }
 {
-    if key == Key::Model && word == "nested" {
+    let domain = key.domain();
+    if matches!(domain, Domain::Models) && word == "nested" {
         return Err(refused_at(UsageCode::Nested, p));
     }
-    match request.with_value(key, word) {
-        None => Err(refused_at(UsageCode::BadValue, p)),
-        Some(more) => Ok(more),
+    if !domain.has(word) {
+        return Err(refused_at(UsageCode::BadValue, p));
     }
+    Ok(request.with_word(key, word))
 }
 
 /// The request with the pairs of the words from the second on.
@@ -106,13 +95,31 @@ fn with_pairs<'a>(words: &'a Texts, command: Command) -> Result<Request<'a>, Usa
         if at + 1 == words.len() {
             return Err(refused_at(UsageCode::MissingValue, at + 1));
         }
-        request = match new_value(request, key, at + 2, words.get(at + 1)) {
+        request = match new_word(request, key, at + 2, words.get(at + 1)) {
             Err(fault) => return Err(fault),
             Ok(more) => more,
         };
         at += 2;
     }
     Ok(request)
+}
+
+/// The first key that the command and the model need, and that isn't given.
+fn missing_key(request: &Request<'_>, model: ModelName) -> Option<Key>
+    requires { model ≡ unwrap_or (asked_model request.now) name.Logit }
+    ensures { result ≡ find (is_missing request.now) keys }
+{
+    let command = request.command();
+    KEYS.iter().copied().find(|key| key.use_by(command).is_needed(model) && !request.has(*key))
+}
+
+/// The first key that is given and that the model doesn't use.
+fn unused_key(request: &Request<'_>, model: ModelName) -> Option<Key>
+    requires { model ≡ unwrap_or (asked_model request.now) name.Logit }
+    ensures { result ≡ find (is_unused request.now) keys }
+{
+    let command = request.command();
+    KEYS.iter().copied().find(|key| request.has(*key) && !key.use_by(command).is_used(model))
 }
 
 /// Whether a file of this name is asked for.
@@ -135,22 +142,17 @@ fn proof_is_input(request: &Request<'_>) -> bool
     is_named(proof, request.products()) || is_named(proof, request.limits())
 }
 
-/// A request that has all that its command needs.
+/// A request that has all that its command and model need, and nothing else.
 fn completed<'a>(request: Request<'a>) -> Result<Request<'a>, UsageFault>
     ensures value { result ≡ completed request.entry }
     ensures complete { IfOk result IsComplete }
 {
-    if !request.has(Key::Model) {
-        return Err(missing(Key::Model));
+    let model = request.model().unwrap_or(ModelName::Logit);
+    if let Some(key) = missing_key(&request, model) {
+        return Err(refused_for(UsageCode::MissingOption, key));
     }
-    if !request.has(Key::Products) {
-        return Err(missing(Key::Products));
-    }
-    if !request.has(Key::NoneWeight) {
-        return Err(missing(Key::NoneWeight));
-    }
-    if request.command() == Command::Check && !request.has(Key::Proof) {
-        return Err(missing(Key::Proof));
+    if let Some(key) = unused_key(&request, model) {
+        return Err(refused_for(UsageCode::UnusedOption, key));
     }
     if proof_is_input(&request) {
         return Err(refused_at(UsageCode::ProofIsInput, 0));

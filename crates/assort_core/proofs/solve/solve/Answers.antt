@@ -8,14 +8,14 @@ returns-in-Err-write_proof-clause-stopped g c =
     let best = best_report c.args.request.now (record { rows = c.in-Ok.inputs.catalogue; limits = c.in-Ok.inputs.problem.limits }) c.in-Ok.inputs.problem c.in_ok-solution.solution.best c.in_ok-solution.solution.report.items
     c.in-Ok.ensures.problem c.in_ok-solution.ensures.best c.in_ok-solution.ensures.report in
     why_unwritten c.args.request.now (g.S.Store.view c.args.store.now) (g.S.Store.view c.read_inputs.new.store) (g.S.Store.view c.write_proof.new.store)
-    c.in-Some.name.now c.in_ok-solution.solution.report.items c.in-Err-write_proof.stop c.requires.command (sym c.in-Some.ensures.value) c.read_inputs.ensures.passes
+    c.in-Some.name.now c.in_ok-solution.solution.report.items c.in-Err-write_proof.stop c.requires.command (sym c.in-Some.ensures) c.read_inputs.ensures.passes
     (λ told. solved_answer c.args.request.now (g.S.Store.view c.args.store.now) (record { rows = c.in-Ok.inputs.catalogue; limits = c.in-Ok.inputs.problem.limits }) c.in_ok-solution.solution.report.items c.requires.command (c.in-Ok.ensures.given told) best)
     c.in-Err-write_proof.ensures.stops (λ e. c.in-Err-write_proof.ensures.cause (ap Err e)) (λ e steady. c.in-Err-write_proof.ensures.ready steady (ap Err e))
 
 pub returns-in-Err-write_proof-clause-part : goal.returns-in-Err-write_proof-clause-part
 returns-in-Err-write_proof-clause-part g c =
     proof_may_stand c.args.request.now (g.S.Store.view c.args.store.now) (g.S.Store.view c.read_inputs.new.store) (g.S.Store.view c.write_proof.new.store)
-    (record { rows = c.in-Ok.inputs.catalogue; limits = c.in-Ok.inputs.problem.limits }) c.in-Ok.inputs.problem c.in-Some.name.now (sym c.in-Some.ensures.value) c.in-Ok.ensures.problem c.read_inputs.ensures.passes
+    (record { rows = c.in-Ok.inputs.catalogue; limits = c.in-Ok.inputs.problem.limits }) c.in-Ok.inputs.problem c.in-Some.name.now (sym c.in-Some.ensures) c.in-Ok.ensures.problem c.read_inputs.ensures.passes
     c.in-Ok.ensures.given c.in-Err-write_proof.ensures.part
 
 pub returns-in_err-solution-clause-part : goal.returns-in_err-solution-clause-part
@@ -26,5 +26,5 @@ returns-in_err-solution-clause-part g c =
 pub returns-clause-proof : goal.returns-clause-proof
 returns-clause-proof g c =
     proof_stands c.args.request.now (g.S.Store.view c.args.store.now) (g.S.Store.view c.read_inputs.new.store) (g.S.Store.view c.write_proof.new.store)
-    (record { rows = c.in-Ok.inputs.catalogue; limits = c.in-Ok.inputs.problem.limits }) c.in-Ok.inputs.problem c.in-Some.name.now (sym c.in-Some.ensures.value) c.in-Ok.ensures.problem
+    (record { rows = c.in-Ok.inputs.catalogue; limits = c.in-Ok.inputs.problem.limits }) c.in-Ok.inputs.problem c.in-Some.name.now (sym c.in-Some.ensures) c.in-Ok.ensures.problem
     (c.write_proof.ensures.endures.stays.tells ∙ c.read_inputs.ensures.passes.stays.tells) c.in-Ok.ensures.given c.in-Ok-write_proof.ensures.written

@@ -12,16 +12,16 @@ returns-then-at-len c =
     rw c.refused_at.ensures (sym (at_last_key c.pairs.request c.args.words.now c.pairs.at c.get.result.now c.in-Ok.key (omega arith) c.get.ensures (sym c.new_key.ensures ∙ c.in-Ok.is))
     ∙ c.pairs.invariant.rest)
 
-pub returns-in-Err-new_value : goal.returns-in-Err-new_value
-returns-in-Err-new_value c =
-    sym (at_bad_value c.pairs.request c.args.words.now c.pairs.at c.get.result.now c.get-in-pairs.result.now c.in-Ok.key c.in-Err-new_value.fault (omega arith)
-    c.get.ensures c.get-in-pairs.ensures (sym c.new_key.ensures ∙ c.in-Ok.is) (sym c.new_value.ensures ∙ c.in-Err-new_value.is))
+pub returns-in-Err-new_word : goal.returns-in-Err-new_word
+returns-in-Err-new_word c =
+    sym (at_bad_value c.pairs.request c.args.words.now c.pairs.at c.get.result.now c.get-in-pairs.result.now c.in-Ok.key c.in-Err-new_word.fault (omega arith)
+    c.get.ensures c.get-in-pairs.ensures (sym c.new_key.ensures ∙ c.in-Ok.is) (sym c.new_word.ensures ∙ c.in-Err-new_word.is))
     ∙ c.pairs.invariant.rest
 
 pub pairs-preserved : goal.pairs-preserved
 pairs-preserved c = record {
   inside = omega arith;
-  rest = at_pair c.pairs.request c.args.words.now c.pairs.at c.get.result.now c.get-in-pairs.result.now c.in-Ok.key c.in-Ok-new_value.more (omega arith)
-      c.get.ensures c.get-in-pairs.ensures (sym c.new_key.ensures ∙ c.in-Ok.is) (sym c.new_value.ensures ∙ c.in-Ok-new_value.is)
+  rest = at_pair c.pairs.request c.args.words.now c.pairs.at c.get.result.now c.get-in-pairs.result.now c.in-Ok.key c.in-Ok-new_word.more (omega arith)
+      c.get.ensures c.get-in-pairs.ensures (sym c.new_key.ensures ∙ c.in-Ok.is) (sym c.new_word.ensures ∙ c.in-Ok-new_word.is)
       ∙ c.pairs.invariant.rest;
 }

@@ -1,0 +1,101 @@
+-- The word that is given for each key, and what a request without a missing key has.
+use Rattle.std.proofs.Common.{◌≡◌, refl, sym, subst, ℕ, zero, suc, List, [], ◌∷◌, slice_index_or, slice_set, Option, Some, None, is_some, unwrap_or, Bool, true, false, not, ◌&&◌, IsTrue, IsSome, IfSome, Bor, if◌then◌else◌, codes}
+use Rattle.std.specs.Prelude.{map}
+use Rattle.std.specs.Option.{option_copied, option_and_then}
+use Rattle.std.specs.List.{find}
+use Rattle.std.specs.Str.{bytes_eq}
+use Rattle.std.proofs.Math.ListN.{get_or-map}
+use Rattle.std.proofs.lemmas.List.{map-set}
+use Rattle.offer_model.specs.declared.ranges.TheConstants.{MOST_AMOUNT}
+use Rattle.offer_model.specs.declared.products.ModelName.TheVariants.{Logit, Attract}
+use Rattle.assort_words.specs.declared.usage.Command.{Command}
+use Rattle.assort_words.specs.declared.usage.Key.{Key}
+use Rattle.assort_words.specs.declared.usage.Key.TheVariants.{Model, Products, Limits, NoneWeight, Proof, NoKey}
+use Rattle.assort_words.specs.declared.keys.Group.TheVariants.{Ratio}
+use Rattle.assort_words.specs.Keys.{keys, index_of, domain_of, use_of, is_in_domain, is_among, is_needed, model_of, number_within}
+use Rattle.assort_words.specs.Asked.{RequestData, word_of, with_word, is_given, is_missing, asked_model, IsInDomains, IsComplete}
+
+-- the word that is read
+pub word_read : (r : RequestData) (c : Command) (ws : List (Option (Bor (List ℕ)))) (i : ℕ) (k : Key) → i ≡ index_of k
+    → r ≡ record { command = c; words = map option_copied ws } → option_copied (slice_index_or ws i None) ≡ word_of r k
+word_read r c ws i k e v = rw (e, v) (sym (get_or-map option_copied ws (index_of k) None))
+
+-- the request with one more word
+pub word_set : (r : RequestData) (c : Command) (ws : List (Option (Bor (List ℕ)))) (i : ℕ) (k : Key) (w : Bor (List ℕ)) → i ≡ index_of k
+    → r ≡ record { command = c; words = map option_copied ws }
+    → (let s : RequestData = record { command = c; words = map option_copied (slice_set ws i (Some w)) } in s) ≡ with_word r k w.now
+word_set r c ws i k w e v = rw (e, v, map-set option_copied ws (index_of k) (Some w)) refl
+
+-- what holds of each word, by its index, holds after one more
+each_word : (Q : ℕ → List ℕ → Type 0) (ws : List (Option (List ℕ))) (i j : ℕ) (w : List ℕ) → Q i w
+    → IfSome (slice_index_or ws j None) (Q j) → IfSome (slice_index_or (slice_set ws i (Some w)) j None) (Q j)
+each_word Q [] i j w q h = h
+each_word Q (x ∷ xs) zero zero w q h = q
+each_word Q (x ∷ xs) zero (suc j) w q h = h
+each_word Q (x ∷ xs) (suc i) zero w q h = h
+each_word Q (x ∷ xs) (suc i) (suc j) w q h = each_word (λ n. Q (suc n)) xs i j w q h
+
+key_at : ℕ → Key
+key_at n = slice_index_or keys n NoKey
+
+key_at_index : (k : Key) → key_at (index_of k) ≡ k
+unfolding key_at
+key_at_index Model = refl
+key_at_index Products = refl
+key_at_index Limits = refl
+key_at_index NoneWeight = refl
+key_at_index Proof = refl
+key_at_index NoKey = refl
+
+-- a word of its key's domain keeps the request in its domains
+pub domains_kept : (r : RequestData) (k : Key) (w : List ℕ) → IsInDomains r → IsTrue (is_in_domain (domain_of k) w) → IsInDomains (with_word r k w)
+domains_kept r k w each here = λ j.
+    let Q : ℕ → List ℕ → Type 0 = λ n word. IsTrue (is_in_domain (domain_of (key_at n)) word) in
+    let new : Q (index_of k) w = subst (λ (z : Key). IsTrue (is_in_domain (domain_of z) w)) (sym (key_at_index k)) here in
+    let old : IfSome (word_of r j) (Q (index_of j)) = subst (λ (z : Key). IfSome (word_of r j) (λ word. IsTrue (is_in_domain (domain_of z) word))) (sym (key_at_index j)) (each j) in
+    subst (λ (z : Key). IfSome (word_of (with_word r k w) j) (λ word. IsTrue (is_in_domain (domain_of z) word))) (key_at_index j)
+    (each_word Q r.words (index_of k) (index_of j) w new old)
+
+-- ---- Nothing is missing.
+
+none_found : (p : Key → Bool) (k : Key) (ks : List Key) → find p (k ∷ ks) ≡ None → (p k ≡ false) × (find p ks ≡ None)
+none_found p k ks e = by_test (p k) e
+  where
+    by_test : (b : Bool) → (if b then Some k else find p ks) ≡ None → (b ≡ false) × (find p ks ≡ None)
+    by_test true e = absurd (cc)
+    by_test false e = (refl, e)
+
+given_some : (o : Option (List ℕ)) → not (is_some o) ≡ false → IsSome o
+given_some None e = absurd (cc)
+given_some (Some w) e = refl
+
+read_some : {T : Type 0} (o : Option (List ℕ)) (f : List ℕ → Option T) → not (is_some o) ≡ false
+    → IfSome o (λ w. IsTrue (is_some (f w))) → IsSome (option_and_then f o)
+read_some None f e h = absurd (cc)
+read_some (Some w) f e h = h
+
+is_ratio : (o : Option (List ℕ)) → is_among Ratio (unwrap_or (option_and_then model_of o) Logit) ≡ true
+is_ratio None = refl
+is_ratio (Some w) = by_tests (bytes_eq w (codes "logit")) (bytes_eq w (codes "attract"))
+  where
+    by_tests : (b b' : Bool) → is_among Ratio (unwrap_or (if b then Some Logit else (if b' then Some Attract else None)) Logit) ≡ true
+    by_tests true b' = refl
+    by_tests false true = refl
+    by_tests false false = refl
+
+-- a request in its domains without a missing key
+pub has_all : (r : RequestData) → IsInDomains r → find (is_missing r) keys ≡ None → IsComplete r
+has_all r each e =
+    let model = none_found (is_missing r) Model (Products ∷ Limits ∷ NoneWeight ∷ Proof ∷ []) e in
+    let products = none_found (is_missing r) Products (Limits ∷ NoneWeight ∷ Proof ∷ []) model.1 in
+    let limits = none_found (is_missing r) Limits (NoneWeight ∷ Proof ∷ []) products.1 in
+    let none = none_found (is_missing r) NoneWeight (Proof ∷ []) limits.1 in
+    let proof = none_found (is_missing r) Proof [] none.1 in
+    let weight : not (is_given r NoneWeight) ≡ false = subst (λ (b : Bool). (b && not (is_given r NoneWeight)) ≡ false) (is_ratio (word_of r Model)) none.0 in
+    record {
+      model = read_some (word_of r Model) model_of model.0 (each Model);
+      products = given_some (word_of r Products) products.0;
+      none = read_some (word_of r NoneWeight) (number_within 1 MOST_AMOUNT) weight (each NoneWeight);
+      proof = λ check. given_some (word_of r Proof)
+          (subst (λ (c : Command). (is_needed (use_of Proof c) (unwrap_or (asked_model r) Logit) && not (is_given r Proof)) ≡ false) check proof.0);
+    }
