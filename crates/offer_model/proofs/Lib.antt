@@ -10,7 +10,10 @@ pub mod CompletionLemmas
 pub mod FullNodeLemmas
 pub mod MultiplierLemmas
 pub mod WorthLemmas
+pub mod GreatestValueLemmas
+pub mod BranchingLemmas
 pub mod ShelfLemmas
 pub mod PotentialLemmas
 pub mod BestLemmas
 pub mod BracketLemmas
+pub mod NothingLemmas

@@ -1,6 +1,7 @@
 -- Sums over products: of equal terms, of bounded terms, of what is offered.
 use Rattle.std.proofs.Common.{◌≡◌, ◌≢◌, ℕ, Bool, true, false, cond, List, length, set, get_or-set_same, get_or-set_other, refl, arith, suc, zero, ◌<◌, ◌≤◌, ◌*◌, ◌+◌, inl, inr}
-use Rattle.std.specs.Prelude.{pos, ◌+ℤ◌, ◌-ℤ◌, ◌≤ℤ◌, ◌⊎◌}
+use Rattle.std.specs.Prelude.{pos, ◌+ℤ◌, ◌-ℤ◌, ◌≤ℤ◌, ◌⊎◌, [], ◌∷◌, slice_index_or, sum_by}
+use Rattle.std.proofs.lemmas.List.Sums.{sum_by-cons}
 use Rattle.std.proofs.lemmas.Bool.{cases_eq}
 use Rattle.std.proofs.lemmas.Int.{ints}
 use Rattle.std.proofs.lemmas.Bool.Decides.{nat_tests}
@@ -69,6 +70,22 @@ sum_below_le m (suc n) f l = by_place (λ h. sum_below_le m n f h) (cases_eq m (
     by_place : (m ≤ n → sum_below m f ≤ sum_below n f) → ((m ≡ suc n) ⊎ (m ≢ suc n)) → sum_below m f ≤ sum_below (suc n) f
     by_place before (inl e) = rw e (omega arith)
     by_place before (inr ne) = let b = before (omega arith) in omega arith
+
+-- ---- Sums over lists.
+
+-- The first term of a sum stands alone, before the others.
+pub sum_below-front : (n : ℕ) (f : ℕ → ℕ) → sum_below (suc n) f ≡ f 0 + sum_below n (λ i. f (suc i))
+sum_below-front zero f = omega arith
+sum_below-front (suc n) f = let before = sum_below-front n f in omega (arith, before)
+
+-- A sum over the places of a list is the sum over its items.
+pub sum_below-items : {X : Type 0} (f : X → ℕ) (xs : List X) (d : X) → sum_below (length xs) (λ i. f (slice_index_or xs i d)) ≡ sum_by f xs
+sum_below-items f [] d = refl
+sum_below-items f (x ∷ xs) d =
+    let front = sum_below-front (length xs) (λ i. f (slice_index_or (x ∷ xs) i d)) in
+    let rest = sum_below-items f xs d in
+    let items = sum_by-cons f x xs in
+    omega (arith, front, rest, items)
 
 -- ---- One more product is offered.
 

@@ -4,11 +4,11 @@ ghost use Rattle.std.specs.Ordering.{nat_cmp};
 ghost use Rattle.offer_model.specs.Problems.{product_count, segment_at, margin_of, attraction_of, shadow_of};
 ghost use Rattle.offer_model.specs.Ranges.{gain_bound, weight_bound, IsInBounds};
 ghost use Rattle.offer_model.specs.Validity.{IsProblem, IsRatioModel};
-ghost use Rattle.offer_model.specs.Revenue.{gain_of, weight_of, revenue_of, EarnsMore};
+ghost use Rattle.offer_model.specs.Revenue.{gain_of, weight_of, revenue_of, segment_value, value_of, EarnsMore};
 
 use crate::assortment::Assortment;
 use crate::problems::Problem;
-use crate::products::Fraction;
+use crate::products::{Fraction, ModelName};
 use std::cmp::Ordering;
 
 /// Margin times attraction of product `i` in segment `g`.
@@ -94,13 +94,58 @@ pub fn revenue(p: &Problem, x: &Assortment) -> Fraction
     }
 }
 
+/// The size of segment `g`.
+fn size(p: &Problem, g: usize) -> u64
+    requires segment { g < length p.now.segments }
+    ensures value { result ≡ (segment_at p.now g).size }
+    ensures valid { IsProblem p.now }
+{
+    p.segments().get(g).size()
+}
+
+/// Size times unit: what a segment's revenue is multiplied by before it is rounded down.
+pub fn share(p: &Problem, g: usize) -> u128
+    requires segment { g < length p.now.segments }
+    ensures value { result ≡ (segment_at p.now g).size * p.now.unit }
+    ensures bound { result ≤ 10 ^ 9 }
+    ensures valid { IsProblem p.now }
+{
+    u128::from(size(p, g)) * u128::from(p.unit())
+}
+
+/// What an assortment brings in segment `g` under mixed logit: size times unit times its revenue there, rounded down.
+pub fn segment_revenue(p: &Problem, g: usize, x: &Assortment) -> u128
+    requires segment { g < length p.now.segments }
+    requires length { length x.now ≡ product_count p.now }
+    ensures value { result ≡ segment_value p.now (segment_at p.now g) x.now }
+    ensures bound { result ≤ 10 ^ 18 }
+{
+    share(p, g) * gain(p, g, x) / weight(p, g, x)
+}
+
+/// What an assortment brings in all segments together, rounded down in each.
+pub fn mixed_value(p: &Problem, x: &Assortment) -> u128
+    requires length { length x.now ≡ product_count p.now }
+    ensures value { result ≡ value_of p.now x.now }
+    ensures bound { result ≤ 10 ^ 18 }
+    ensures valid { IsProblem p.now }
+{
+    let mut total = 0;
+    for g in 0..p.segments().len() {
+        total += segment_revenue(p, g, x);
+    }
+    total
+}
+
 /// Whether `x` earns more than `y` (`Greater`), less (`Less`), or as much.
 pub fn value_order(p: &Problem, x: &Assortment, y: &Assortment) -> Ordering
-    requires model { IsRatioModel p.now.model }
     requires x { length x.now ≡ product_count p.now }
     requires y { length y.now ≡ product_count p.now }
     ensures greater { (result ≡ Ordering.Greater) ↔ EarnsMore p.now x.now y.now }
     ensures less { (result ≡ Ordering.Less) ↔ EarnsMore p.now y.now x.now }
 {
-    compare_fraction(&revenue(p, x), &revenue(p, y))
+    match p.model() {
+        ModelName::Mixed => mixed_value(p, x).cmp(&mixed_value(p, y)),
+        _ => compare_fraction(&revenue(p, x), &revenue(p, y)),
+    }
 }

@@ -18,12 +18,16 @@ mod texts;
 
 pub use arc::Arc;
 pub use assortment::Assortment;
-pub use earnings::{compare_fraction, gain, product_gain, revenue, value_order, weight};
+pub use earnings::{
+    compare_fraction, gain, mixed_value, product_gain, revenue, segment_revenue, share,
+    value_order, weight,
+};
 pub use laws::{ranges_are_stated, worked_values_hold};
 pub use lists::{Bytes, Items, Limits, Numbers, Products, Segments, Wide};
 pub use memory::NoMemory;
 pub use node::{Mark, Node};
 pub use numerals::{MOST_DIGITS, read_number};
+pub use problem_copy::copy_segments;
 pub use problems::Problem;
 pub use products::{Fraction, Limit, ModelName, Product};
 pub use ranges::{

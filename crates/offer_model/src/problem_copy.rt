@@ -7,7 +7,7 @@ use crate::problems::Problem;
 use std::alloc::Global;
 
 /// A list of equal segments.
-fn copy_segments(alloc: Global, segments: &Segments) -> Result<Segments, NoMemory>
+pub fn copy_segments(alloc: Global, segments: &Segments) -> Result<Segments, NoMemory>
     ensures { IfOk result (λ copy. copy.items ≡ segments.now.items) }
 {
     let mut copy = Segments::new(alloc);
