@@ -1,4 +1,3 @@
-pub mod PushLemmas
 pub mod SameLemmas
 pub mod SizeLemmas
 pub mod CallerLemmas

@@ -7,4 +7,4 @@ mod multipliers;
 
 pub use descent::Descent;
 pub use linear_weights::Weights as PriceList;
-pub use multipliers::Multipliers;
+pub use multipliers::{Multipliers, number_at};

@@ -35,7 +35,7 @@ impl Model for Multipliers {
 }
 
 /// The number at a place, counted from 0.
-fn number_at(numbers: &Wide, i: usize) -> u128
+pub fn number_at(numbers: &Wide, i: usize) -> u128
     requires place { i < length numbers.now.items }
     requires numbers { AreNumbers numbers.now.items }
     ensures value { result ≡ slice_index numbers.now.items i }

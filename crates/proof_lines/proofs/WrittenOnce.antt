@@ -2,7 +2,6 @@
 use Rattle.std.proofs.Common.{◌≡◌, ℕ, suc, zero, Bool, true, false, cond, ◌||◌, List, [], ◌∷◌, length, Option, Some, None, refl, sym, ◌∙◌, ap, subst, arith, inl, inr, ◌⊎◌, ⊎_elim, eqb, ◌<◌, ◌≤◌, ◌+◌, ◌/◌}
 use Rattle.std.specs.Prelude.{slice_index, slice_set, nat_lt}
 use Rattle.std.specs.Bool.{MatchBool}
-use Rattle.std.proofs.lemmas.Bool.{cases_lt, cases_eq}
 use Rattle.offer_model.specs.declared.node.Mark.{Mark}
 use Rattle.offer_model.specs.declared.node.Mark.TheVariants.{In, Out}
 use Rattle.offer_model.specs.declared.products.ModelName.{ModelName}
@@ -11,7 +10,8 @@ use Rattle.offer_model.specs.Assortments.{offers}
 use Rattle.offer_model.specs.Problems.{SegmentData, ProblemData, product_count, segment_at}
 use Rattle.offer_model.specs.Best.{IsBest}
 use Rattle.offer_model.specs.Nodes.{open_node, Clashes}
-use Rattle.offer_model.specs.Branching.{GoesFirst, IsFirstOpen, IsDearestOpen}
+use Rattle.offer_model.proofs.BranchingLemmas.{dearest_one}
+use Rattle.offer_model.proofs.NodeLemmas.{IsFirstOpen-unique}
 use Rattle.offer_model.specs.NodeValues.{IsGreatestValue}
 use Rattle.offer_model.specs.Chains.{ChainData, place_count, arriving, customer_count}
 use Rattle.offer_model.specs.Stopping.{StoppingData, IsGreatest, IsStopping, own_value, value_bound, quotient_up, upper_step, lower_step}
@@ -68,9 +68,9 @@ few_branches p text x tree shape e w =
 -- ---- A search tree is fixed by its rule.
 
 -- The rule leaves no choice.
-record IsFixing (rule : Rule) : Type 0 where
-  numbers : (node : List Mark) (us vs : List ℕ) → rule.HasNumbers node us → rule.HasNumbers node vs → us ≡ vs
-  branches : (node : List Mark) (i j : ℕ) → rule.BranchesOn node i → rule.BranchesOn node j → i ≡ j
+pub record IsFixing (rule : Rule) : Type 0 where
+  pub numbers : (node : List Mark) (us vs : List ℕ) → rule.HasNumbers node us → rule.HasNumbers node vs → us ≡ vs
+  pub branches : (node : List Mark) (i j : ℕ) → rule.BranchesOn node i → rule.BranchesOn node j → i ≡ j
 
 same_leaf : (s t : Shape) (us vs : List ℕ) → s ≡ t → us ≡ vs → leaf s us ≡ leaf t vs
 same_leaf s t us vs e f = cc
@@ -102,26 +102,8 @@ search_one p x rule node (branch i a b) (branch j c d) f h k =
     (search_one p x rule (slice_set node j In) a c f (subst P same h.3) k.3)
     (search_one p x rule (slice_set node j Out) b d f (subst Q same h.4) k.4)
 
-first_one : (node : List Mark) (i j : ℕ) → IsFirstOpen node i → IsFirstOpen node j → i ≡ j
-first_one node i j h k = elim (cases_lt i j) [
-  | inl b ↦ absurd (k.first i b h.open_mark)
-  | inr b ↦ elim (cases_lt j i) [ inl c ↦ absurd (h.first j c k.open_mark) | inr c ↦ omega arith ]
-]
-
 ratio_fixes : (p : ProblemData) → IsFixing (ratio_rule p)
-ratio_fixes p = record { numbers = λ node us vs h k. h ∙ sym k; branches = λ node i j h k. first_one node i j h k }
-
-dearest_one : (p : ProblemData) (node : List Mark) (i j : ℕ) → IsDearestOpen p node i → IsDearestOpen p node j → i ≡ j
-dearest_one p node i j h k = elim (cases_eq i j) [
-  | inl e ↦ e
-  | inr d ↦ absurd (apart (h.first j k.open_mark (λ e. d (sym e))) (k.first i h.open_mark d))
-]
-  where
-    apart : GoesFirst p i j → GoesFirst p j i → ⊥
-    apart (inl a) (inl b) = omega arith
-    apart (inl a) (inr b) = omega (arith, b.0)
-    apart (inr a) (inl b) = omega (arith, a.0)
-    apart (inr a) (inr b) = omega (arith, a.1, b.1)
+ratio_fixes p = record { numbers = λ node us vs h k. h ∙ sym k; branches = λ node i j h k. IsFirstOpen-unique node i j h k }
 
 value_one : (p : ProblemData) (g : SegmentData) (node : List Mark) (v w : ℕ) → IsGreatestValue p g node v → IsGreatestValue p g node w → v ≡ w
 value_one p g node v w h k =
@@ -138,7 +120,8 @@ lists_one (u ∷ us) (v ∷ vs) l h = joined (h 0 (omega arith)) (lists_one us v
     joined : u ≡ v → us ≡ vs → u ∷ us ≡ v ∷ vs
     joined e f = cc
 
-mixed_fixes : (p : ProblemData) → IsFixing (mixed_rule p)
+-- Under mixed logit no choice is left.
+pub mixed_fixes : (p : ProblemData) → IsFixing (mixed_rule p)
 mixed_fixes p = record {
   numbers = λ node us vs h k. lists_one us vs (h.each ∙ sym k.each)
       (λ j l. value_one p (segment_at p j) node (slice_index us j) (slice_index vs j) (h.greatest j l) (k.greatest j (inside us vs j (h.each ∙ sym k.each) l)));

@@ -6,20 +6,16 @@ use Rattle.offer_model.specs.declared.node.Mark.{Mark}
 use Rattle.offer_model.specs.declared.node.Mark.TheVariants.{In, Out, Open}
 use Rattle.offer_model.specs.declared.products.ModelName.{ModelName}
 use Rattle.offer_model.specs.declared.products.ModelName.TheVariants.{Logit, Attract, Mixed, Chain}
-use Rattle.offer_model.specs.Assortments.{IsBefore}
 use Rattle.offer_model.specs.Problems.{ProblemData, first_segment}
 use Rattle.offer_model.specs.Revenue.{gain_of, weight_of, value_of}
-use Rattle.offer_model.specs.Nodes.{mark_at, fill_of, Clashes}
+use Rattle.offer_model.specs.Nodes.{mark_at, Clashes}
+pub use Rattle.offer_model.specs.Nodes.{ComesAfter}
 use Rattle.offer_model.specs.Prices.{Prices, prices_at}
 use Rattle.offer_model.specs.LeafBounds.{MultipliersFit, multipliers_bound, shelf_bound, PotentialsFit, potentials_bound, SegmentsFit, segments_bound}
 use Rattle.proof_lines.specs.declared.line.Shape.{Shape}
 use Rattle.proof_lines.specs.declared.line.Shape.TheVariants as S
 use Rattle.proof_lines.specs.Trees.{Tree}
 use Rattle.proof_lines.specs.Trees.Tree.{leaf, branch}
-
--- The node's first completion, its fill, isn't before x. So a completion that earns as much isn't either.
-abbrev pub ComesAfter : List Mark → List Bool → Type 0
-ComesAfter node x = ¬ IsBefore (fill_of node) x
 
 -- There is a bound. It is below 0, or is 0 where ties go to x.
 abbrev pub BoundCloses : List Bool → List Mark → Option ℤ → Type 0

@@ -1,5 +1,5 @@
 -- Which certificates the writers may write: of the best assortment, accepted, and in these forms. Own.
-use Rattle.std.specs.Prelude.{◌≡◌, ℕ, ◌+◌, ◌==◌, ◌&&◌, ◌||◌, nat_lt, ◌⊎◌, Bool, true, false, cond, if◌then◌else◌, List, [], ◌∷◌, length, replicate, Option, Some, None, slice_set}
+use Rattle.std.specs.Prelude.{◌≡◌, ℕ, ◌+◌, ◌==◌, ◌&&◌, ◌||◌, nat_lt, ◌⊎◌, Bool, cond, if◌then◌else◌, List, [], ◌∷◌, length, replicate, Option, Some, None, slice_set}
 use Prim.Native.Nat.{zero, suc}
 use Rattle.std.specs.Bool.{MatchBool}
 use Rattle.std.specs.List.{list_all}

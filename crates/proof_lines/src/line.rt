@@ -1,3 +1,4 @@
+//! The lines of certificates: their shapes and numbers.
 use offer_model::{ModelName, Wide};
 
 /// The shapes of a certificate's lines.

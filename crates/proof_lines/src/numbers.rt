@@ -1,3 +1,4 @@
+//! Numbers of a line, in decimal.
 ghost use Rattle.std.specs.Prelude.{◌≡◌, ℕ, ◌+◌, ◌-◌, ◌*◌, ◌<◌, ◌≤◌, ◌^◌, ◌++◌, length, take, drop, decimal, IfSome, IfNone};
 ghost use Rattle.std.specs.Int.{IsInRange};
 ghost use Rattle.std.specs.Str.Parse.{AllDigits, digits_value};

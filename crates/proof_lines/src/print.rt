@@ -1,3 +1,4 @@
+//! Prints a line.
 ghost use Rattle.std.specs.Prelude.{◌≡◌, ℕ, ◌+◌, ◌<◌, ◌≤◌, [], ◌∷◌, ◌++◌, List, length, map, decimal};
 ghost use Rattle.proof_lines.specs.Lines.{spaced, digits_text, value_text, line_text, model_text, IsLine, IsValue, AreDigits};
 

@@ -1,3 +1,4 @@
+//! Reads a line.
 ghost use Rattle.std.specs.Prelude.{◌≡◌, ℕ, ◌+◌, ◌<◌, ◌≤◌, ◌^◌, [], ◌∷◌, ◌++◌, List, length, map, decimal, slice_index, IfSome, IfNone};
 ghost use Rattle.proof_lines.specs.Lines.{most_number, spaced, digits_text, value_text, line_text, model_text, IsLine, IsLineText, IsValue, AreDigits, AreNumbers};
 ghost use Rattle.proof_lines.specs.Reading.{Reads, form_between, shape_by_head, shape_of_model};

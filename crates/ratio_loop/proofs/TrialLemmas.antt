@@ -21,7 +21,7 @@ use Rattle.ratio_loop.specs.Ties.{IsCompletionAt}
 use Rattle.ratio_loop.proofs.LoopFacts.{IsReached}
 use Rattle.ratio_loop.proofs.NumberLemmas.{next_weighs, to_a_fourth, falls, few}
 use Rattle.offer_model.proofs.EarningLemmas.{own_gain-small, own_weight-small, own_weight-positive, ratio_from_earns, earns_from_ratio}
-use Rattle.ratio_loop.proofs.NothingLemmas.{nothing, own_gain-nothing, IsFeasible-nothing}
+use Rattle.offer_model.proofs.NothingLemmas.{nothing, own_gain-nothing, IsFeasible-nothing}
 
 -- At this revenue y weighs no more than x.
 abbrev pub WeighsNoMore : ProblemData → Fraction → List Bool → List Bool → Type 0

@@ -16,8 +16,6 @@ use Rattle.offer_model.specs.Prices.{Prices, int_sum_below, worth_of}
 use Rattle.offer_model.specs.LeafBounds.{greater_of, raised_by, best_in_space, shelf_space, shelf_bound}
 use Rattle.offer_model.proofs.ShelfLemmas.{Reaches, in_space_step}
 use Rattle.offer_model.proofs.NodeLemmas.{offers-fill_of}
--- The name by which callers cite what a fill offers.
-pub use Rattle.offer_model.proofs.NodeLemmas.{offers-fill_of as fill_at}
 use Rattle.shelf_table.specs.Tables.{space_of, better_of, best_of, best_from, free_price, free_prices}
 
 -- ---- The best of a room.

@@ -1,3 +1,4 @@
 pub mod CellLemmas
 pub mod CallerLemmas
 pub mod RoomLemmas
+pub mod OpenLemmas

@@ -43,10 +43,8 @@ pub fn first_open(node: &Node) -> usize
     ensures settled { (i : ℕ) → i < result → mark_at node.now i ≢ Open }
     ensures is_open { result < length node.now → mark_at node.now result ≡ Open }
 {
-    for i in 0..node.len() {
-        if node.mark(i) == Mark::Open {
-            return i;
-        }
+    match node.first_open() {
+        Some(i) => i,
+        None => node.len(),
     }
-    node.len()
 }

@@ -11,6 +11,7 @@ use Rattle.offer_model.specs.Assortments.{offers, sum_below}
 use Rattle.offer_model.specs.Problems.{ProblemData, product_count}
 use Rattle.offer_model.specs.Prices.{Prices, int_sum_below, worth_of}
 use Rattle.offer_model.specs.LeafBounds.{ladder_top, ladder_tops}
+use Rattle.offer_model.proofs.SumLemmas.{sum_below-front}
 use Rattle.table_steps.specs.LadderFits.{named_ladder}
 
 -- ---- One more product is offered.
@@ -52,10 +53,6 @@ worth_set p at x i long l off =
 
 -- ---- Over ladders.
 
-sum_front : (n : ℕ) (f : ℕ → ℕ) → sum_below (suc n) f ≡ f 0 + sum_below n (λ k. f (suc k))
-sum_front zero f = omega arith
-sum_front (suc n) f = let before = sum_front n f in omega arith
-
 -- The greatest numbers of all ladders, where each limit is one.
 pub tops_sum : (p : ProblemData) (us : List ℕ) (limits : List Limit) (f : ℕ → ℕ)
     → ((k : ℕ) → k < length limits → slice_index_or limits k (Total 0) ≡ Ladder (f k))
@@ -65,7 +62,7 @@ tops_sum p us (Ladder l ∷ limits) f h =
     let here : l ≡ f 0 = ap named_ladder (h 0 (omega arith)) in
     let top = ap (λ k. ladder_top p us k (product_count p)) here in
     let rest = tops_sum p us limits (λ k. f (suc k)) (λ k l. h (suc k) (omega arith)) in
-    let front = sum_front (length limits) (λ k. ladder_top p us (f k) (product_count p)) in
+    let front = sum_below-front (length limits) (λ k. ladder_top p us (f k) (product_count p)) in
     omega arith
 tops_sum p us (Total cap ∷ limits) f h = let here = h 0 (omega arith) in cc
 tops_sum p us (Category c cap ∷ limits) f h = let here = h 0 (omega arith) in cc
