@@ -1,0 +1,32 @@
+-- Worked values of the bounds and of the goal, by computation.
+use Rattle.std.specs.Prelude.{◌≡◌, true, Some, None, [], ◌∷◌}
+use Rattle.offer_model.specs.declared.node.Mark.TheVariants.{In, Out, Open}
+use Rattle.offer_model.specs.declared.products.ModelName.TheVariants.{Mixed}
+use Rattle.offer_model.specs.Problems.{ProblemData, segment_at}
+use Rattle.offer_model.specs.Revenue.{segment_value, value_of}
+use Rattle.offer_model.specs.WorkedValues.{plain_product, plain_segment}
+use Rattle.segment_bound.specs.Greatest.{greatest}
+use Rattle.segment_bound.specs.Orders.{dearest}
+use Rattle.segment_bound.specs.MixedGoals.{greatest_sum}
+
+-- margins 6 and 10; a segment of size 1 with attractions and nothing 1, and one of size 2 with attractions 2 and 0 and nothing 3
+abbrev pub two_segments : ProblemData
+two_segments = record {
+  model = Mixed;
+  unit = 1;
+  products = plain_product 6 ∷ plain_product 10 ∷ [];
+  segments = plain_segment 1 (1 ∷ 1 ∷ []) ∷ record { size = 2; none = 3; attract = 2 ∷ 0 ∷ []; shadow = 0 ∷ 0 ∷ [] } ∷ [];
+  limits = [];
+}
+
+-- both bring 16 div 3 and 24 div 5; the second alone 10 div 2 and 0, the first alone 6 div 2 and 24 div 5
+pub record BoundsAreWorked : Type 0 where
+  pub both : value_of two_segments (true ∷ true ∷ []) ≡ 9
+  pub first : greatest (segment_value two_segments (segment_at two_segments 0)) (Open ∷ Open ∷ []) ≡ 5
+  pub second : greatest (segment_value two_segments (segment_at two_segments 1)) (Open ∷ Open ∷ []) ≡ 4
+  pub first_out : greatest_sum two_segments (Out ∷ Open ∷ []) ≡ 5
+  pub second_out : greatest_sum two_segments (Open ∷ Out ∷ []) ≡ 7
+  pub second_in : greatest_sum two_segments (Open ∷ In ∷ []) ≡ 9
+  pub dearest_open : dearest two_segments (Open ∷ Open ∷ []) ≡ Some 1
+  pub next_dearest : dearest two_segments (Open ∷ In ∷ []) ≡ Some 0
+  pub nothing_open : dearest two_segments (Out ∷ In ∷ []) ≡ None
