@@ -4,8 +4,9 @@ use Rattle.catalogue.specs.declared.names.TheConstants.{MOST_NAME}
 use Rattle.catalogue.specs.declared.products.TheConstants.{MOST_TABLE}
 use Rattle.catalogue.specs.declared.product_columns.TheConstants.{NAME, MARGIN, ATTRACTION, SHADOW, CATEGORY, SPACE, PRICE, LADDER, GRADE, ARRIVAL}
 use Rattle.catalogue.specs.declared.limit_columns.TheConstants.{KIND, FIRST, SECOND, NUMBER}
+use Rattle.catalogue.specs.declared.segment_columns.TheConstants.{SEGMENT, PRODUCT, SIZE, WEIGHT}
 use Rattle.catalogue.specs.Sizes.{most_name, most_table}
-use Rattle.catalogue.specs.Columns.{name_column, margin_column, attraction_column, shadow_column, category_column, space_column, price_column, ladder_column, grade_column, arrival_column, kind_column, first_column, second_column, number_column}
+use Rattle.catalogue.specs.Columns.{name_column, margin_column, attraction_column, shadow_column, category_column, space_column, price_column, ladder_column, grade_column, arrival_column, kind_column, first_column, second_column, number_column, segment_column, product_column, size_column, weight_column}
 
 -- The longest name.
 pub most_name_is : MOST_NAME ≡ most_name
@@ -23,3 +24,7 @@ product_columns_are = (refl, refl, refl, refl, refl, refl, refl, refl, refl, ref
 -- The columns of a limits file.
 pub limit_columns_are : (KIND ≡ kind_column) × (FIRST ≡ first_column) × (SECOND ≡ second_column) × (NUMBER ≡ number_column)
 limit_columns_are = (refl, refl, refl, refl)
+
+-- The columns of a segments file.
+pub segment_columns_are : (SEGMENT ≡ segment_column) × (PRODUCT ≡ product_column) × (SIZE ≡ size_column) × (WEIGHT ≡ weight_column)
+segment_columns_are = (refl, refl, refl, refl)

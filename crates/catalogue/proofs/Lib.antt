@@ -1,7 +1,7 @@
 pub mod ConstantLemmas
 pub mod CatalogueProblemLemmas
 mod PrintedTextLemmas
-mod ReadBackLemmas
+pub mod ReadBackLemmas
 pub mod CellLemmas
 pub mod FaultLemmas
 pub mod LentNameLemmas
@@ -10,3 +10,6 @@ pub mod LimitNameLemmas
 pub mod NameLemmas
 pub mod OutcomeLemmas
 pub mod ProductLemmas
+pub mod SegmentLemmas
+pub mod SegmentStepLemmas
+pub mod SegmentPairLemmas

@@ -25,6 +25,7 @@ use Rattle.catalogue.specs.Faults.{first_row_fault}
 use Rattle.catalogue.specs.Cells.{text_of, written_number}
 use Rattle.catalogue.specs.CatalogueProblems.{problem_data_of}
 use Rattle.catalogue.specs.Rows.{RowData, no_row, row_at, HasNumbers}
+use Rattle.catalogue.specs.SegmentTables.{NamedSegment}
 use Rattle.catalogue.specs.LimitTables.{kind_of_row, category_named, ladder_named, product_named, first_named, second_named, limit_by, limit_under, stated_limit, limits_before, repeats, line_fault, requires_fault, named_fault, cap_fault, repeated_fault, fields_fault, fault_of_kind, limit_fault}
 use Rattle.catalogue.proofs.FaultLemmas.{all_none, no_fault_if, no_fault_else, row_is_clean}
 use Rattle.catalogue.proofs.LimitNameLemmas.{number_is_had}
@@ -107,18 +108,18 @@ capped Shelf text first second none = in_range MOST_COUNT (number_of text) none
 capped Ladder text first second none = tt
 
 -- It names what there is.
-module _ (rows : List RowData) (numbered : HasNumbers rows) (model : ModelName) (none unit : ℕ) (limits : List Limit) where
-  product_of : (i : ℕ) → i < length rows → product_at (problem_data_of rows model none unit limits) i ≡ (row_at rows i).product
+module _ (rows : List RowData) (numbered : HasNumbers rows) (model : ModelName) (none unit : ℕ) (segments : List NamedSegment) (limits : List Limit) where
+  product_of : (i : ℕ) → i < length rows → product_at (problem_data_of rows model none unit segments limits) i ≡ (row_at rows i).product
   product_of i inside = get_or-map (λ (row : RowData). row.product) rows i no_row no_product inside
 
-  product_there : (text : List ℕ) (n : ℕ) → product_named rows text ≡ Some n → n < product_count (problem_data_of rows model none unit limits)
+  product_there : (text : List ℕ) (n : ℕ) → product_named rows text ≡ Some n → n < product_count (problem_data_of rows model none unit segments limits)
   product_there text n named =
       let found = position-Some (bytes_eq text) (map (λ (row : RowData). row.name) rows) n [] named in
       omega (arith, found.0, length-map rows (λ (row : RowData). row.name), length-map rows (λ (row : RowData). row.product))
 
   numbered_there : (f : Product → ℕ) (n : ℕ) → (1 ≤ n) × ((i : ℕ) × (i < length rows) × (f (row_at rows i).product ≡ n))
-      → (1 ≤ n) × ((i : ℕ) × (i < product_count (problem_data_of rows model none unit limits))
-      × (f (product_at (problem_data_of rows model none unit limits) i) ≡ n))
+      → (1 ≤ n) × ((i : ℕ) × (i < product_count (problem_data_of rows model none unit segments limits))
+      × (f (product_at (problem_data_of rows model none unit segments limits) i) ≡ n))
   numbered_there f n had =
       let i = had.1.0 in
       let inside : i < length rows = had.1.1 in (
@@ -128,7 +129,7 @@ module _ (rows : List RowData) (numbered : HasNumbers rows) (model : ModelName) 
 
   names_there : (kind : LimitKind) (first second : List ℕ) (number : ℕ) → named_fault (first_named rows kind first) ≡ None
       → named_fault (second_named rows kind second) ≡ None
-      → NamesExisting (problem_data_of rows model none unit limits)
+      → NamesExisting (problem_data_of rows model none unit segments limits)
       (limit_by kind (unwrap_or (first_named rows kind first) 0) (unwrap_or (second_named rows kind second) 0) number)
   names_there Total first second number a b = tt
   names_there Category first second number a b =
@@ -185,8 +186,8 @@ module _ (rows : List RowData) (table : TableData) (n : ℕ) (clean : (k : ℕ) 
       true≢false (sym (list_any_at (repeats (stated_limit rows table j)) (limits_before rows table j) i (stated_limit rows table i) there here) ∙ fresh)
 
   -- No fault in a row, so the limits may stand in the catalogue's problem.
-  pub limits_fit : HasNumbers rows → (model : ModelName) (none unit : ℕ) → HasLimits (problem_data_of rows model none unit (limits_before rows table n))
-  limits_fit numbered model none unit =
+  pub limits_fit : HasNumbers rows → (model : ModelName) (none unit : ℕ) (segments : List NamedSegment) → HasLimits (problem_data_of rows model none unit segments (limits_before rows table n))
+  limits_fit numbered model none unit segments =
       let limits = limits_before rows table n in
       let stated : (k : ℕ) (kind : LimitKind) → kind_of_row table k ≡ Some kind → stated_limit rows table k ≡ limit_under rows table k kind
       = λ k kind is. ap (λ o. limit_under rows table k (unwrap_or o Total)) is in
@@ -196,10 +197,10 @@ module _ (rows : List RowData) (table : TableData) (n : ℕ) (clean : (k : ℕ) 
         in_range = each_limit IsInRange (λ k inside.
             let row = clean_limit rows table k (clean k inside) in
             subst IsInRange (sym (stated k row.0 row.1.kind_is)) (capped row.0 (text_of table k number_column) _ _ row.1.number));
-        named = each_limit (NamesExisting (problem_data_of rows model none unit limits)) (λ k inside.
+        named = each_limit (NamesExisting (problem_data_of rows model none unit segments limits)) (λ k inside.
             let row = clean_limit rows table k (clean k inside) in
-            subst (NamesExisting (problem_data_of rows model none unit limits)) (sym (stated k row.0 row.1.kind_is))
-            (names_there rows numbered model none unit limits row.0 (text_of table k first_column) (text_of table k second_column) _ row.1.first row.1.second));
+            subst (NamesExisting (problem_data_of rows model none unit segments limits)) (sym (stated k row.0 row.1.kind_is))
+            (names_there rows numbered model none unit segments limits row.0 (text_of table k first_column) (text_of table k second_column) _ row.1.first row.1.second));
         once = λ i j d before inside.
             let last : j < n = omega (arith, inside, length-map-range_with_len (stated_limit rows table) 0 n) in
             let at : (k : ℕ) → k < n → get_or limits k d ≡ stated_limit rows table k
@@ -212,10 +213,10 @@ module _ (rows : List RowData) (table : TableData) (n : ℕ) (clean : (k : ℕ) 
 pub fit_if_read : {T E : Type 0} (items_of : T → List Limit) (read : Result T E) (rows catalogue : List RowData) (table : TableData)
     → rows ≡ catalogue → HasNumbers catalogue → IfOk read (λ x. items_of x ≡ limits_before rows table (length table.records))
     → OnOk read (first_row_fault Limits (limit_fault rows table) 0 (length table.records) ≡ None)
-    → IfOk read (λ x. (model : ModelName) (none unit : ℕ) → HasLimits (problem_data_of catalogue model none unit (items_of x)))
-fit_if_read items_of (Ok x) rows catalogue table same numbered are clean = λ model none unit.
-    subst (λ xs. HasLimits (problem_data_of catalogue model none unit xs)) (sym are)
-    (subst (λ cs. HasLimits (problem_data_of cs model none unit (limits_before rows table (length table.records)))) same
+    → IfOk read (λ x. (model : ModelName) (none unit : ℕ) (segments : List NamedSegment) → HasLimits (problem_data_of catalogue model none unit segments (items_of x)))
+fit_if_read items_of (Ok x) rows catalogue table same numbered are clean = λ model none unit segments.
+    subst (λ xs. HasLimits (problem_data_of catalogue model none unit segments xs)) (sym are)
+    (subst (λ cs. HasLimits (problem_data_of cs model none unit segments (limits_before rows table (length table.records)))) same
     (limits_fit rows table (length table.records)
-    (λ k inside. row_is_clean Limits (limit_fault rows table) (length table.records) k clean inside) (subst HasNumbers (sym same) numbered) model none unit))
+    (λ k inside. row_is_clean Limits (limit_fault rows table) (length table.records) k clean inside) (subst HasNumbers (sym same) numbered) model none unit segments))
 fit_if_read items_of (Err e) rows catalogue table same numbered are clean = tt

@@ -106,7 +106,7 @@ group_right text (inl none) = rw none refl
 group_right text (inr name) = either_way (length text == 0) (name_fault text) (ap (λ right. if right then None else Some BadName) name)
 
 -- No earlier row has a row's name.
-name_new : (rows : List RowData) (k : ℕ) → AllPairs NamesDiffer rows → k < length rows
+pub name_new : (rows : List RowData) (k : ℕ) → AllPairs NamesDiffer rows → k < length rows
     → is_among (row_at rows k).name (take k (map (λ row. row.name) rows)) ≡ false
 name_new rows k differ inside = list_any_none (bytes_eq (row_at rows k).name) (take k names) (λ j d within.
     let few = length-take-le k names (omega (arith, length-map rows (λ row. row.name))) in

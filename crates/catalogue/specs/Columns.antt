@@ -1,4 +1,4 @@
--- The columns of products files and of limits files, by their places in the order of their names, from 0. Own.
+-- The columns of products files, of limits files and of segments files, by their places in the order of their names, from 0. Own.
 use Rattle.std.specs.Prelude.{ℕ}
 
 -- Of a products file.
@@ -44,3 +44,17 @@ second_column = 2
 
 abbrev pub number_column : ℕ
 number_column = 3
+
+-- Of a segments file.
+abbrev pub segment_column : ℕ
+segment_column = 0
+
+abbrev pub product_column : ℕ
+product_column = 1
+
+abbrev pub size_column : ℕ
+size_column = 2
+
+-- Of attractions, in a head of the weight of buying nothing.
+abbrev pub weight_column : ℕ
+weight_column = 3

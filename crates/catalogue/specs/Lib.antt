@@ -9,5 +9,7 @@ pub mod LimitTables
 pub mod ProductCells
 pub mod SeenNames
 pub mod SegmentTables
+pub mod Drafts
+pub mod SegmentDrafts
 pub mod CatalogueProblems
 pub mod PrintedProducts

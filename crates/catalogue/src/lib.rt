@@ -15,9 +15,14 @@ mod printing;
 mod problems;
 mod product_cells;
 mod product_columns;
+mod product_places;
 mod product_rows;
 mod products;
+mod segment_columns;
+mod segment_draft;
+mod segment_rows;
 mod segment_table;
+mod segments;
 mod table_faults;
 
 pub use catalogue::Catalogue;
@@ -31,4 +36,6 @@ pub use product_columns::{
     ARRIVAL, ATTRACTION, CATEGORY, GRADE, LADDER, MARGIN, NAME, PRICE, SHADOW, SPACE,
 };
 pub use products::{MOST_TABLE, read_products};
+pub use segment_columns::{PRODUCT, SEGMENT, SIZE, WEIGHT};
 pub use segment_table::SegmentTable;
+pub use segments::read_segments;

@@ -1,5 +1,5 @@
 //! Limits files: from bytes to limits over a catalogue, or to the first fault.
-ghost use Rattle.std.specs.Prelude.{◌≡◌, ℕ, ◌≤◌, length, Ok, Err, Some, None, IfOk, IfErr, OnOk};
+ghost use Rattle.std.specs.Prelude.{◌≡◌, ℕ, ◌≤◌, List, length, Ok, Err, Some, None, IfOk, IfErr, OnOk};
 ghost use Rattle.offer_model.specs.declared.products.ModelName.{ModelName};
 ghost use Rattle.offer_model.specs.Validity.{HasLimits, is_requires};
 ghost use Rattle.catalogue.specs.declared.faults.FileName.TheVariants as file;
@@ -7,6 +7,7 @@ ghost use Rattle.catalogue.specs.Sizes.{most_table};
 ghost use Rattle.catalogue.specs.CatalogueProblems.{problem_data_of};
 ghost use Rattle.catalogue.specs.Faults.{OnFault, first_row_fault};
 ghost use Rattle.catalogue.specs.Rows.{HasNumbers};
+ghost use Rattle.catalogue.specs.SegmentTables.{NamedSegment};
 ghost use Rattle.catalogue.specs.LimitTables.{limit_fault, limits_before, limits_outcome};
 
 use crate::catalogue::{Catalogue, Row};
@@ -63,7 +64,8 @@ fn read_rows(
 pub fn read_limits(alloc: Global, bytes: &[u8], c: &Catalogue) -> Result<Limits, InputFault>
     requires { length bytes.now ≤ most_table }
     ensures limits { IfOk result (λ limits. limits_outcome c.now bytes.now ≡ Ok limits.items) }
-    ensures fits { IfOk result (λ limits. (model : ModelName) (none unit : ℕ) → HasLimits (problem_data_of c.now model none unit limits.items)) }
+    ensures fits { IfOk result (λ limits. (model : ModelName) (none unit : ℕ) (segments : List NamedSegment)
+        → HasLimits (problem_data_of c.now model none unit segments limits.items)) }
     ensures fault { IfErr result (λ e. OnFault e (limits_outcome c.now bytes.now ≡ Err e)) }
 {
     let table = match read_table::<LIMIT_COLUMNS>(alloc, bytes, &COLUMNS, &[true; LIMIT_COLUMNS]) {

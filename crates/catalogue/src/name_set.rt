@@ -1,5 +1,6 @@
 //! The names that rows gave, each once.
-ghost use Rattle.std.specs.Prelude.{◌≡◌, ◌<◌, ℕ, List, [], ◌∷◌, ◌++◌, length, if◌then◌else◌, IfOk, OnOk};
+ghost use Rattle.std.specs.Prelude.{◌≡◌, ◌<◌, ℕ, List, [], ◌∷◌, ◌++◌, length, position, if◌then◌else◌, IfOk, OnOk};
+ghost use Rattle.std.specs.Str.{bytes_eq};
 ghost use Rattle.table_reader.specs.Tables.{is_among};
 ghost use Rattle.catalogue.specs.Names.{distinct_names, number_in};
 
@@ -38,6 +39,13 @@ impl<'a> NameSet<'a> {
         ensures { result ≡ is_among name.now self.now }
     {
         self.names.contains(name)
+    }
+
+    /// The place of a name in order of first appearance, from 0.
+    pub fn place(&self, name: &[u8]) -> Option<usize>
+        ensures { result ≡ position (bytes_eq name.now) self.now }
+    {
+        self.names.get_index_of(name)
     }
 
     /// Puts a name last, unless it is there.

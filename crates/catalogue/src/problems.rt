@@ -1,7 +1,7 @@
 //! The problem that a catalogue and its limits are.
-ghost use Rattle.std.specs.Prelude.{◌≡◌, ◌<◌, [], ◌∷◌, length, map, IfOk};
+ghost use Rattle.std.specs.Prelude.{◌≡◌, ◌≢◌, ◌<◌, [], ◌∷◌, length, map, IfOk};
 ghost use Rattle.offer_model.specs.Validity.{IsPositiveAmount, IsRatioModel, HasLimits};
-ghost use Rattle.catalogue.specs.CatalogueProblems.{shadow_under, segment_of, problem_data_of, KeepsShadows};
+ghost use Rattle.catalogue.specs.CatalogueProblems.{shadow_under, segment_of, segments_under, problem_data_of, KeepsShadows, FitSegments};
 ghost use Rattle.catalogue.specs.Rows.{row_at, IsCatalogue};
 
 use crate::catalogue::Catalogue;
@@ -84,8 +84,41 @@ fn only_segment(
     Ok(list)
 }
 
-/// The problem of a catalogue and its limits under logit or generalised attraction. All customers are one segment, so
-/// `segments` isn't read under these models.
+/// Equal segments, without their names.
+fn copied_segments(alloc: Global, segments: &SegmentTable) -> Result<Segments, NoMemory>
+    ensures { IfOk result (λ list. list.items ≡ map (λ named. named.segment) segments.now) }
+{
+    let mut list = Segments::new(alloc);
+    list.reserve(segments.len())?;
+    for g in 0..segments.len() {
+        list.push(segments.segment(g).copy(alloc)?);
+    }
+    Ok(list)
+}
+
+/// The segments of the customers: those that are given under mixed logit, else the catalogue's one.
+fn segments_under(
+    alloc: Global,
+    c: &Catalogue,
+    model: ModelName,
+    none: u64,
+    segments: &SegmentTable,
+) -> Result<Segments, NoMemory>
+    requires none { IsRatioModel model → IsPositiveAmount none }
+    requires model { model ≢ ModelName.Chain }
+    requires shadows { model ≡ ModelName.Attract → KeepsShadows c.now }
+    ensures { IfOk result (λ list. list.items ≡ segments_under c.now model none segments.now) }
+{
+    match model {
+        ModelName::Mixed => copied_segments(alloc, segments),
+        ModelName::Logit | ModelName::Attract | ModelName::Chain => {
+            only_segment(alloc, c, model, none)
+        }
+    }
+}
+
+/// The problem of a catalogue and its limits. Under mixed logit its segments are those that are given, and `none` isn't read;
+/// under logit and generalised attraction all customers are one segment, and `segments` isn't read.
 pub fn problem_of(
     alloc: Global,
     c: &Catalogue,
@@ -95,15 +128,18 @@ pub fn problem_of(
     segments: &SegmentTable,
     limits: &Limits,
 ) -> Result<Problem, NoMemory>
-    requires model { IsRatioModel model }
-    requires none { IsPositiveAmount none }
-    requires unit { unit ≡ 1 }
-    requires limits { HasLimits (problem_data_of c.now model none unit limits.now.items) }
+    requires model { model ≢ ModelName.Chain }
+    requires limits { HasLimits (problem_data_of c.now model none unit segments.now limits.now.items) }
+    // of one segment, and of several
+    requires none { IsRatioModel model → IsPositiveAmount none }
+    requires unit { IsRatioModel model → unit ≡ 1 }
     requires shadows { model ≡ ModelName.Attract → KeepsShadows c.now }
-    ensures { IfOk result (λ p. p ≡ problem_data_of c.now model none unit limits.now.items) }
+    requires segments { model ≡ ModelName.Mixed → FitSegments c.now unit segments.now }
+
+    ensures { IfOk result (λ p. p ≡ problem_data_of c.now model none unit segments.now limits.now.items) }
 {
     let products = products_of(alloc, c)?;
-    let only = only_segment(alloc, c, model, none)?;
+    let segments = segments_under(alloc, c, model, none, segments)?;
     let limits = copied_limits(alloc, limits)?;
-    Ok(Problem::new(model, unit, products, only, limits))
+    Ok(Problem::new(model, unit, products, segments, limits))
 }

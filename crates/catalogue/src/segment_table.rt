@@ -1,5 +1,6 @@
 //! The segments of a mixed model.
-ghost use Rattle.std.specs.Prelude.{◌≡◌, [], length};
+ghost use Rattle.std.specs.Prelude.{◌≡◌, ◌<◌, [], length};
+ghost use Rattle.catalogue.specs.SegmentTables.{named_segment_at};
 
 use offer_model::Segment;
 use std::alloc::Global;
@@ -7,9 +8,9 @@ use std::marker::Model;
 
 /// A segment of the customers, with its name.
 #[derive(Drop)]
-struct SegmentRow {
-    name: String,
-    segment: Segment,
+pub(crate) struct SegmentRow {
+    pub name: String,
+    pub segment: Segment,
 }
 
 impl Model for SegmentRow {
@@ -46,10 +47,34 @@ impl SegmentTable {
         }
     }
 
+    pub(crate) fn new(rows: Vec<SegmentRow>) -> SegmentTable
+        ensures { result ≡ rows.items }
+    {
+        SegmentTable { rows }
+    }
+
     /// The number of segments.
     pub fn len(&self) -> usize
         ensures { result ≡ length self.now }
     {
         self.rows.len()
+    }
+
+    /// The name of segment `g`.
+    pub fn name(&self, g: usize) -> &str
+        requires { g < length self.now }
+        ensures { result.now ≡ (named_segment_at self.now g).name }
+    {
+        let row = &self.rows[g];
+        row.name.as_str()
+    }
+
+    /// The numbers of segment `g`.
+    pub fn segment(&self, g: usize) -> &Segment
+        requires { g < length self.now }
+        ensures { result.now ≡ (named_segment_at self.now g).segment }
+    {
+        let row = &self.rows[g];
+        &row.segment
     }
 }
