@@ -1,5 +1,7 @@
 pub mod FeedingLemmas
+pub mod StandLemmas
 pub mod PathLemmas
+pub mod StageLemmas
 pub mod TreeLemmas
 pub mod TextLemmas
 pub mod LineLeafLemmas

@@ -3,36 +3,27 @@ use Rattle.std.proofs.Common.{◌≡◌, ◌∙◌, ℕ, zero, suc, ◌+◌, ◌
 use Rattle.std.specs.Prelude.{slice_set, IsErr}
 use Rattle.offer_model.specs.declared.node.Mark.{Mark}
 use Rattle.offer_model.specs.declared.node.Mark.TheVariants.{In, Out, Open}
-use Rattle.offer_model.specs.Nodes.{mark_at}
+use Rattle.offer_model.specs.Nodes.{mark_at, opens, one_if_open}
+use Rattle.offer_model.proofs.NodeLemmas.{open_inside}
 use Rattle.offer_io.specs.Stores.{StoreView}
 use Rattle.offer_io.specs.declared.devices.Failed.{Failed}
 use Rattle.proof_tree.specs.Feeding.{joined}
 use Rattle.proof_tree.specs.Paths.{first_of, branched}
 use Rattle.proof_tree.specs.Trees.{TextTree, branch_text, end_text, tree_texts}
 use Rattle.proof_tree.specs.Trees.TextTree.{leaf, branch}
-use Rattle.proof_tree.specs.Rules.{IsRuleTree, AreRuleLines, SaysLeaf, opens, node_count, node_counts, GoesOn}
+use Rattle.proof_tree.specs.Rules.{IsRuleTree, AreRuleLines, SaysLeaf, node_count, node_counts, GoesOn}
 use Rattle.proof_tree.specs.Puts.{Puts}
+use Rattle.proof_tree.proofs.StandLemmas.{opens-set}
 use Rattle.proof_tree.proofs.PutLemmas.{puts_then, puts_stop, IsPutSoFar, more_so_far, stops_so_far, all_so_far}
 
 -- ---- Fewer nodes are left.
 
-opens_in : (node : List Mark) (k : ℕ) → mark_at node k ≡ Open → suc (opens (slice_set node k In)) ≡ opens node
-opens_in [] k e = cc
-opens_in (Open ∷ node) zero e = refl
-opens_in (In ∷ node) zero e = cc
-opens_in (Out ∷ node) zero e = cc
-opens_in (Open ∷ node) (suc k) e = ap suc (opens_in node k e)
-opens_in (In ∷ node) (suc k) e = opens_in node k e
-opens_in (Out ∷ node) (suc k) e = opens_in node k e
-
-opens_out : (node : List Mark) (k : ℕ) → mark_at node k ≡ Open → suc (opens (slice_set node k Out)) ≡ opens node
-opens_out [] k e = cc
-opens_out (Open ∷ node) zero e = refl
-opens_out (In ∷ node) zero e = cc
-opens_out (Out ∷ node) zero e = cc
-opens_out (Open ∷ node) (suc k) e = ap suc (opens_out node k e)
-opens_out (In ∷ node) (suc k) e = opens_out node k e
-opens_out (Out ∷ node) (suc k) e = opens_out node k e
+-- A product that was Open and isn't any more is one less.
+settled : (node : List Mark) (k : ℕ) (m : Mark) → mark_at node k ≡ Open → one_if_open m ≡ 0 → suc (opens (slice_set node k m)) ≡ opens node
+settled node k m o shut =
+    let change = opens-set node k m (open_inside node k o) in
+    let one : one_if_open (mark_at node k) ≡ 1 = ap one_if_open o in
+    omega arith
 
 some_count : (d : ℕ) → 0 < node_count d
 some_count zero = omega arith
@@ -44,8 +35,8 @@ leaf_fewer node nodes = let some = some_count (opens node) in omega arith
 branch_fewer : (node : List Mark) (nodes : List (List Mark)) (k : ℕ) → mark_at node k ≡ Open
     → node_counts (slice_set node k In ∷ slice_set node k Out ∷ nodes) < node_counts (node ∷ nodes)
 branch_fewer node nodes k e =
-    let within : opens node ≡ suc (opens (slice_set node k In)) = sym (opens_in node k e) in
-    let without = opens_out node k e in
+    let within : opens node ≡ suc (opens (slice_set node k In)) = sym (settled node k In e refl) in
+    let without = settled node k Out e refl in
     let same : opens (slice_set node k Out) ≡ opens (slice_set node k In) = omega arith in
     let whole : node_count (opens node) ≡ suc (node_count (opens (slice_set node k In)) + node_count (opens (slice_set node k In))) = ap node_count within in
     let other : node_count (opens (slice_set node k Out)) ≡ node_count (opens (slice_set node k In)) = ap node_count same in
@@ -171,8 +162,8 @@ tree_within : (L : List Mark → List ℕ → Type 0) (B : List Mark → ℕ →
     → (d : ℕ) (node : List Mark) → opens node < d → length node ≡ n → (tree : TextTree) × IsRuleTree L B node tree
 tree_within L B n decided zero node few each = absurd (omega arith)
 tree_within L B n decided (suc d) node few each = tree_at L B node (λ i o. (
-  tree_within L B n decided d (slice_set node i In) (let one = opens_in node i o in omega arith) (length-set node i In ∙ each),
-  tree_within L B n decided d (slice_set node i Out) (let one = opens_out node i o in omega arith) (length-set node i Out ∙ each),
+  tree_within L B n decided d (slice_set node i In) (let one = settled node i In o refl in omega arith) (length-set node i In ∙ each),
+  tree_within L B n decided d (slice_set node i Out) (let one = settled node i Out o refl in omega arith) (length-set node i Out ∙ each),
 )) (decided node each)
 
 -- A rule has a tree, where it has a leaf or a branch at each node.

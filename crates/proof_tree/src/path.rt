@@ -1,6 +1,6 @@
 //! The path through a tree: a node, and the branches above it.
-ghost use Rattle.std.specs.Prelude.{◌≡◌, ◌<◌, ◌≤◌, ◌↔◌, not, drop, [], ◌∷◌, reverse, length, slice_set, vec_capacity, IfOk, IsTrue};
-ghost use Rattle.offer_model.specs.Nodes.{mark_at, open_node};
+ghost use Rattle.std.specs.Prelude.{◌≡◌, ◌+◌, ◌<◌, ◌≤◌, ◌↔◌, false, not, drop, [], ◌∷◌, reverse, length, slice_set, vec_capacity, IfOk, IsTrue};
+ghost use Rattle.offer_model.specs.Nodes.{mark_at, open_node, opens};
 ghost use Rattle.proof_tree.specs.Paths.{FramesFit, waiting, other_sides, first_of, branched};
 
 use offer_model::{Mark, NoMemory, Node};
@@ -32,7 +32,7 @@ impl Model for Path {
 
     ghost view = { λ s. record { products = length s.node; nodes = waiting s.done s.node (reverse s.frames.items) } };
 
-    ghost invariant = { λ s. IsPath s.node s.frames.items (vec_capacity s.frames) };
+    ghost invariant = { λ s. IsPath s.done s.node s.frames.items (vec_capacity s.frames) };
 }
 
 impl Path {
@@ -73,9 +73,10 @@ impl Path {
         self.node.len()
     }
 
-    /// How many branches are open.
+    /// How many branches are open: one for each product that the first node settles.
     pub fn frames(&self) -> usize
-        ensures { result ≤ self.now.products }
+        ensures depth { result + opens (first_of self.now.nodes) ≡ length (first_of self.now.nodes) }
+        ensures most { result ≤ self.now.products }
     {
         self.frames.len()
     }
@@ -111,6 +112,7 @@ fn turn(node: &mut Node, frames: &mut Vec<Frame>) -> bool
     ensures fits { FramesFit node.new (reverse frames.new.items) }
     ensures waiting { waiting (not result) node.new (reverse frames.new.items)
         ≡ other_sides node.old (reverse frames.old.items) }
+    ensures none { result ≡ false → length frames.new.items ≡ 0 }
     ensures length { length node.new ≡ length node.old }
     ensures room { vec_capacity frames.new ≡ vec_capacity frames.old }
 {

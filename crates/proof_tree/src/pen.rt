@@ -1,9 +1,10 @@
 //! A pen: room for one line, which it writes to the open output.
-ghost use Rattle.std.specs.Prelude.{◌≡◌, ◌∷◌, ◌++◌, [], length, All, IsTrue};
+ghost use Rattle.std.specs.Prelude.{◌≡◌, ◌+◌, ◌∷◌, ◌++◌, [], length, All, IsTrue};
+ghost use Rattle.offer_model.specs.Nodes.{opens};
 ghost use Rattle.proof_lines.specs.Lines.{line_text, text_of};
 ghost use Rattle.proof_tree.specs.Pens.{IsWritable, lines_data};
 ghost use Rattle.proof_tree.specs.Puts.{Puts};
-ghost use Rattle.proof_tree.specs.Rules.{SaysLeaf};
+ghost use Rattle.proof_tree.specs.Rules.{SaysLeaf, StandsAt};
 ghost use Rattle.proof_tree.specs.Trees.{branch_text, end_text};
 
 use crate::rule::{LINE_ROOM, TreeRule};
@@ -55,13 +56,15 @@ impl Pen {
     }
 
     /// Puts down the node's leaf, if the rule has one.
-    pub(crate) fn put_leaf<R: TreeRule>(&mut self, rule: &mut R, node: &Node) -> bool
-        requires { length node.now ≡ R.products rule.old }
+    pub(crate) fn put_leaf<R: TreeRule>(&mut self, rule: &mut R, node: &Node, depth: usize) -> bool
+        requires each { length node.now ≡ R.products rule.old }
+        requires depth { depth + opens node.now ≡ length node.now }
+        requires stands { StandsAt (R.LeafOf rule.old) (R.BranchesOn rule.old) (R.products rule.old) depth node.now }
         ensures leaf { SaysLeaf (R.LeafOf rule.old node.now) self.new result }
         ensures same { rule.new ≡ rule.old }
     {
         self.text.clear();
-        rule.leaf(node, &mut self.text)
+        rule.leaf(node, depth, &mut self.text)
     }
 
     /// Puts down a branch on product `i`.

@@ -3,7 +3,7 @@ ghost use Rattle.std.specs.Prelude.{◌≡◌, ℕ, ◌<◌, ◌≤◌, ◌↔�
 ghost use Rattle.offer_model.specs.Nodes.{mark_at, open_node};
 ghost use Rattle.offer_model.specs.declared.node.Mark.{Mark};
 ghost use Rattle.proof_lines.specs.declared.line.Shape.TheVariants as Shapes;
-ghost use Rattle.proof_tree.specs.Stages.{phase_of, products_of, EndsBy, BranchesBy, LeavesBy, HasNumbers};
+ghost use Rattle.proof_tree.specs.Stages.{BranchesOpen, phase_of, products_of, EndsBy, BranchesBy, LeavesBy, HasNumbers};
 ghost use Rattle.proof_tree.specs.Trees.{TreeWaits, TreeLeads, IsRead};
 ghost use Rattle.proof_tree.specs.Trees.TreePhase.{in_trees, at_end, refused};
 
@@ -78,9 +78,10 @@ impl TreeProgress {
         self.stage == Stage::End
     }
 
-    /// How many branches are open.
+    /// How many branches are open: one for each product that the next line's node settles.
     pub fn frames(&self) -> usize
-        ensures { result ≤ products_of self.now }
+        ensures branches { BranchesOpen (phase_of self.now) result }
+        ensures most { result ≤ products_of self.now }
     {
         self.path.frames()
     }

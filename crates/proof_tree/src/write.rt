@@ -5,7 +5,7 @@ ghost use Rattle.proof_lines.specs.Lines.{text_of};
 ghost use Rattle.proof_tree.specs.Feeding.{joined};
 ghost use Rattle.proof_tree.specs.Pens.{IsWritable, lines_data};
 ghost use Rattle.proof_tree.specs.Puts.{Puts};
-ghost use Rattle.proof_tree.specs.Rules.{AreRuleLines, IsRuleTree, GoesOn};
+ghost use Rattle.proof_tree.specs.Rules.{AreRuleLines, AreOfTree, IsRuleTree, GoesOn};
 ghost use Rattle.proof_tree.specs.Trees.{TextTree, tree_texts, end_text};
 
 use crate::path::Path;
@@ -18,14 +18,17 @@ use proof_lines::Line;
 fn put_node<R: TreeRule>(rule: &mut R, path: &mut Path, pen: &mut Pen)
     requires node { 0 < length path.old.nodes }
     requires each { path.old.products ≡ R.products rule.old }
+    requires own { AreOfTree (R.LeafOf rule.old) (R.BranchesOn rule.old) (R.products rule.old) path.old.nodes }
     ensures on { GoesOn (R.LeafOf rule.old) (R.BranchesOn rule.old) path.old.nodes path.new.nodes pen.new }
+    ensures own { AreOfTree (R.LeafOf rule.old) (R.BranchesOn rule.old) (R.products rule.old) path.new.nodes }
     ensures each { path.new.products ≡ path.old.products }
     ensures same { rule.new ≡ rule.old }
 {
-    if pen.put_leaf(rule, path.node()) {
+    let depth = path.frames();
+    if pen.put_leaf(rule, path.node(), depth) {
         path.close();
     } else {
-        let i = rule.branch(path.node());
+        let i = rule.branch(path.node(), depth);
         pen.put_branch(i);
         path.branch(i);
     }
@@ -39,6 +42,7 @@ fn write_trees<R: TreeRule, S: Store>(
     store: &mut S,
 ) -> Result<(), Failed>
     requires each { path.old.products ≡ R.products rule.old }
+    requires own { AreOfTree (R.LeafOf rule.old) (R.BranchesOn rule.old) (R.products rule.old) path.old.nodes }
     requires output { IsTrue (S.view store.old).writing }
     ensures lines { (ls : List (List ℕ)) → AreRuleLines (R.LeafOf rule.old) (R.BranchesOn rule.old) path.old.nodes ls
         → Puts (S.view store.old) (joined ls) result (S.view store.new) }
