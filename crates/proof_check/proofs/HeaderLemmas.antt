@@ -14,7 +14,7 @@ use Rattle.proof_tree.proofs.TreeLemmas.{read_as, read_text, tree_ends}
 use Rattle.proof_check.specs.declared.header.Head.{Head}
 use Rattle.proof_check.specs.declared.header.Head.TheVariants as H
 use Rattle.proof_check.specs.Headers.{head_phase, Leads, StartsBy, ModelBy, SetBy, ValueBy}
-use Rattle.proof_check.specs.Judging.{RatioData}
+use Rattle.proof_check.specs.Judging.{LeavesData}
 use Rattle.proof_check.specs.Waiting.{Waits, MachineData}
 use Rattle.proof_check.specs.Waiting.HeadPhase.{at_start, at_model, at_set, at_value}
 
@@ -58,20 +58,20 @@ value_leads p x l read ns after r (inr h) = rw h.1 (λ tree ls. (λ t. absurd t,
 
 -- ---- The machine, as it stands.
 
-abbrev pub shown : Head → RatioData → TreePhase → MachineData
+abbrev pub shown : Head → LeavesData → TreePhase → MachineData
 shown head leaves tree = record { problem = leaves.problem; head = head_phase head leaves.set; tree = tree }
 
 -- A line of the tree leads the machine on.
-pub tree_step : (before : MachineData) (head : Head) (old new : RatioData) (t u : TreePhase) (l : List ℕ) → shown head old t ≡ before → head ≡ H.Tree → new ≡ old
+pub tree_step : (before : MachineData) (head : Head) (old new : LeavesData) (t u : TreePhase) (l : List ℕ) → shown head old t ≡ before → head ≡ H.Tree → new ≡ old
     → TreeLeads (LeafCloses old.problem old.set) t u l
     → (ls : List (List ℕ)) → Waits new.problem (head_phase head new.set) u ls ↔ Waits before.problem before.head before.tree (l ∷ ls)
 tree_step before head old new t u l is e same leads =
     subst (λ (z : MachineData). (ls : List (List ℕ)) → Waits new.problem (head_phase head new.set) u ls ↔ Waits z.problem z.head z.tree (l ∷ ls)) is
-    (subst (λ (z : RatioData). (ls : List (List ℕ)) → Waits z.problem (head_phase head z.set) u ls ↔ Waits old.problem (head_phase head old.set) t (l ∷ ls)) (sym same)
+    (subst (λ (z : LeavesData). (ls : List (List ℕ)) → Waits z.problem (head_phase head z.set) u ls ↔ Waits old.problem (head_phase head old.set) t (l ∷ ls)) (sym same)
     (rw e leads))
 
 -- A line of the header leads the machine on.
-pub head_step : (before : MachineData) (head after : Head) (old new : RatioData) (tree : TreePhase) (l : List ℕ) → shown head old tree ≡ before → new.problem ≡ old.problem
+pub head_step : (before : MachineData) (head after : Head) (old new : LeavesData) (tree : TreePhase) (l : List ℕ) → shown head old tree ≡ before → new.problem ≡ old.problem
     → Leads old.problem tree (head_phase head old.set) (head_phase after new.set) l
     → (ls : List (List ℕ)) → Waits new.problem (head_phase after new.set) tree ls ↔ Waits before.problem before.head before.tree (l ∷ ls)
 head_step before head after old new tree l is same leads =
@@ -79,7 +79,7 @@ head_step before head after old new tree l is same leads =
     (subst (λ (z : ProblemData). (ls : List (List ℕ)) → Waits z (head_phase after new.set) tree ls ↔ Waits old.problem (head_phase head old.set) tree (l ∷ ls)) (sym same) leads)
 
 -- In the tree everything has come exactly where the tree has.
-pub machine_ends : (before : MachineData) (head : Head) (leaves : RatioData) (tree : TreePhase) → shown head leaves tree ≡ before → head ≡ H.Tree
+pub machine_ends : (before : MachineData) (head : Head) (leaves : LeavesData) (tree : TreePhase) → shown head leaves tree ≡ before → head ≡ H.Tree
     → (tree ≡ at_end) ↔ Waits before.problem before.head before.tree []
 machine_ends before head leaves tree is e =
     subst (λ (z : MachineData). (tree ≡ at_end) ↔ Waits z.problem z.head z.tree []) is (rw e (tree_ends (LeafCloses leaves.problem leaves.set) tree))

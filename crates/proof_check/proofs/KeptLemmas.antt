@@ -5,18 +5,19 @@ use lib.IntN.{ℤ}
 use Rattle.std.proofs.lemmas.Int.{ints}
 use Rattle.offer_model.specs.declared.node.Mark.{Mark}
 use Rattle.offer_model.specs.declared.node.Mark.TheVariants.{Open}
+use Rattle.offer_model.proofs.NodeLemmas.{offers-fill_of}
 use Rattle.offer_model.specs.Assortments.{offers}
 use Rattle.offer_model.specs.Problems.{ProblemData, product_count}
 use Rattle.offer_model.specs.Revenue.{sum_offered}
-use Rattle.offer_model.specs.Nodes.{mark_at, is_in, fill_of}
+use Rattle.offer_model.specs.Nodes.{mark_at, is_in, fill_of, IsSettledTo}
 use Rattle.offer_model.specs.Prices.{Prices, int_sum_below, worth_of}
 use Rattle.offer_model.specs.LeafBounds.{raised_by, best_in_space, shelf_space, bound_in_space, shelf_bound}
 use Rattle.linear_step.specs.Weights.{IsWithin, WeightsData, AreWeights, weight_at, prices_of}
 use Rattle.shelf_table.specs.Tables.{TableData, IsTableOf, cell_at, space_of, price_in, best_from, free_prices}
 use Rattle.shelf_table.specs.Rooms.{AreSpaces, IsRoomLeft}
-use Rattle.shelf_table.proofs.CallerLemmas.{fill_at, best_from-same, rest_from, shelf_bound-fits, shelf_bound-over}
+use Rattle.shelf_table.proofs.CallerLemmas.{best_from-same, rest_from, shelf_bound-fits, shelf_bound-over}
 use Rattle.shelf_table.proofs.RoomLemmas.{room_is, over_is}
-use Rattle.proof_check.specs.Shelves.{AreFirstSettled, IsSmall}
+use Rattle.proof_check.specs.Shelves.{IsSmall}
 use Rattle.proof_check.specs.Leaves.{space_for, HasTable}
 use Rattle.proof_check.specs.declared.kept_table.KeptTable.{KeptTable}
 use Rattle.proof_check.proofs.LadderLemmas.{within_sum}
@@ -30,7 +31,7 @@ worth_below node at n = at.constant +ℤ int_sum_below n (λ i. cond (offers (fi
 
 pub worth_more : (node : List Mark) (at : Prices) (n : ℕ) (sum z : ℤ) → sum ≡ worth_below node at n → z ≡ cond (is_in (mark_at node n)) (at.price n) (pos 0)
     → (sum +ℤ z) ≡ worth_below node at (n + 1)
-worth_more node at n sum z e here = rw (add-one, fill_at node n) (omega (arith, ints, e, here))
+worth_more node at n sum z e here = rw (add-one, offers-fill_of node n) (omega (arith, ints, e, here))
 
 pub worth_at : (m k : Mark) (x y z : ℤ) → m ≡ k → x ≡ y → y ≡ z → cond (is_in m) x (pos 0) ≡ cond (is_in k) z (pos 0)
 worth_at m k x y z e f g = cc
@@ -52,7 +53,7 @@ worth_small p node w n s few l =
 open_price : (node : List Mark) (price : ℕ → ℤ) (i : ℕ) → mark_at node i ≡ Open → free_prices node price i ≡ price i
 open_price node price i e = rw e refl
 
-cell_is : (p : ProblemData) (node : List Mark) (w : WeightsData) (t : TableData) (prices : List ℤ) (k room : ℕ) → AreFirstSettled node k → length node ≡ product_count p
+cell_is : (p : ProblemData) (node : List Mark) (w : WeightsData) (t : TableData) (prices : List ℤ) (k room : ℕ) → IsSettledTo k node → length node ≡ product_count p
     → IsTableOf t (space_of p) (price_in prices) → t.products ≡ product_count p → room ≤ t.space
     → ((i : ℕ) → i < product_count p → price_in prices i ≡ weight_at w i)
     → cell_at t k room ≡ best_from (space_of p) (free_prices node (weight_at w)) (product_count p) 0 room
@@ -67,7 +68,7 @@ cell_is p node w t prices k room f long table products inside same =
 -- What is In and the cell are the bound.
 pub kept_bound : (p : ProblemData) (node : List Mark) (w : WeightsData) (s : KeptTable) (spaces : List ℕ) (space room k : ℕ) (worth cell : ℤ)
     → HasTable p s → IsTableOf s.table (space_of p) (price_in s.prices.items) → ((i : ℕ) → i < product_count p → price_in s.prices.items i ≡ weight_at w i)
-    → AreFirstSettled node k → length node ≡ product_count p → AreSpaces p spaces → Some space ≡ shelf_space p.limits → IsRoomLeft spaces space node (Some room)
+    → IsSettledTo k node → length node ≡ product_count p → AreSpaces p spaces → Some space ≡ shelf_space p.limits → IsRoomLeft spaces space node (Some room)
     → worth ≡ worth_of p (prices_of w) (fill_of node) → cell ≡ cell_at s.table k room → Some (worth +ℤ cell) ≡ shelf_bound p node (prices_of w)
 kept_bound p node w s spaces space room k worth cell has table same first long are shelf left ew ec =
     let fits = room_is p spaces space node room are left in

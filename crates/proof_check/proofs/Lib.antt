@@ -6,3 +6,4 @@ pub mod KeptLemmas
 pub mod LeafLemmas
 pub mod HeaderLemmas
 pub mod AcceptedLemmas
+pub mod SegmentLemmas

@@ -1,9 +1,8 @@
 -- Lists that a loop writes or reads item by item.
-use Rattle.std.proofs.Common.{◌≡◌, ℕ, suc, zero, Bool, true, false, List, [], ◌∷◌, ◌++◌, length, take, drop, get_or, set, Some, refl, sym, ◌∙◌, ap, subst, arith, ◌<◌, ◌+◌, ◌↔◌, IsTrue}
+use Rattle.std.proofs.Common.{◌≡◌, ℕ, suc, zero, Bool, List, [], ◌∷◌, ◌++◌, length, take, drop, get_or, set, Some, refl, sym, ◌∙◌, ap, arith, ◌<◌, ◌+◌}
 use Rattle.std.specs.Prelude.{slice_get, nat_eq}
 use Rattle.std.proofs.lemmas.Option.{slice_get_within, get_or_from_slice_get}
-use Rattle.std.proofs.lemmas.List.{take_more, take_more_set, map-append, drop_more, length-map}
-use Rattle.offer_model.specs.Assortments.{offers}
+use Rattle.std.proofs.lemmas.List.{take_more, take_more_set, map-append, drop_more}
 use Rattle.proof_lines.specs.Lines.{AreDigits}
 use Rattle.proof_lines.specs.Acceptance.{digit_of, digits_of}
 

@@ -5,3 +5,4 @@ pub mod Potentials
 pub mod LadderLists
 pub mod Shelves
 pub mod Leaves
+pub mod Segments

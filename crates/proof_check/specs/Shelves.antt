@@ -1,10 +1,8 @@
--- Rows of the table over products and space, and nodes that a kept table serves. Own.
-use Rattle.std.specs.Prelude.{◌≡◌, ◌≢◌, ℕ, ◌<◌, ◌≤◌, List, length, Option, Some, None, slice_index_or}
+-- Rows of the table over products and space. Own.
+use Rattle.std.specs.Prelude.{◌≡◌, ℕ, ◌<◌, List, length, Option, Some, None, slice_index_or}
 use lib.IntN.{ℤ}
 use Rattle.offer_model.specs.declared.node.Mark.{Mark}
-use Rattle.offer_model.specs.declared.node.Mark.TheVariants.{Open}
 use Rattle.offer_model.specs.Problems.{ProblemData}
-use Rattle.offer_model.specs.Nodes.{mark_at}
 use Rattle.offer_model.specs.LeafBounds.{best_in_space}
 use Rattle.linear_step.specs.Weights.{IsWithin}
 
@@ -20,9 +18,3 @@ IsRow p marks price k row = (room : ℕ) → room < length row → cell row room
 abbrev pub IsSmall : ℕ → Option ℤ → Type 0
 IsSmall m None = Unit {0}
 IsSmall m (Some z) = IsWithin m z
-
--- The first k products are settled, and the others are Open.
-pub record AreFirstSettled (node : List Mark) (k : ℕ) : Type 0 where
-  pub inside : k ≤ length node
-  pub settled : (i : ℕ) → i < k → mark_at node i ≢ Open
-  pub others : (i : ℕ) → k ≤ i → i < length node → mark_at node i ≡ Open

@@ -1,8 +1,8 @@
 //! The checker of certificates.
 ghost use Rattle.std.specs.Prelude.{◌≡◌, ℕ, ◌≤◌, ◌↔◌, List, [], ◌++◌, IfOk, IsTrue};
 ghost use Rattle.offer_model.specs.Problems.{product_count};
-ghost use Rattle.offer_model.specs.Validity.{IsRatioModel};
 ghost use Rattle.proof_lines.specs.Acceptance.{Accepts};
+ghost use Rattle.proof_tree.specs.Stages.{BranchesOpen};
 ghost use Rattle.proof_check.specs.Waiting.{Takes};
 
 use crate::machine::Machine;
@@ -36,7 +36,6 @@ impl Model for Checker {
 impl Checker {
     /// A checker that has read nothing. It takes all its memory here.
     pub fn for_problem(alloc: Global, p: &Problem) -> Result<Checker, NoMemory>
-        requires { IsRatioModel p.now.model }
         ensures { IfOk result (λ checker. (r : List ℕ) → Takes checker r ↔ Accepts p.now r) }
     {
         let machine = Machine::new(alloc, p)?;
@@ -53,7 +52,8 @@ impl Checker {
 
     /// How many branches are open.
     pub fn frames(&self) -> usize
-        ensures { result ≤ product_count self.now.machine.problem }
+        ensures branches { BranchesOpen self.now.machine.tree result }
+        ensures most { result ≤ product_count self.now.machine.problem }
     {
         self.feeder.machine().frames()
     }

@@ -5,7 +5,7 @@ ghost use Rattle.proof_lines.specs.declared.line.Shape.TheVariants as Shapes;
 ghost use Rattle.proof_tree.specs.Trees.{IsRead, TreePhase};
 ghost use Rattle.proof_check.specs.Headers.{StartsBy, ModelBy, SetBy, ValueBy, Leads, head_phase};
 
-use crate::ratio_leaves::RatioLeaves;
+use crate::problem_leaves::ProblemLeaves;
 use offer_model::{ModelName, Wide};
 use proof_lines::Shape;
 
@@ -53,7 +53,7 @@ fn after_model(read: Option<Shape>, model: ModelName) -> Head
 }
 
 /// What comes after the assortment's line, by which leaves are judged from then on.
-fn after_set(read: Option<Shape>, numbers: &Wide, leaves: &mut RatioLeaves) -> Head
+fn after_set(read: Option<Shape>, numbers: &Wide, leaves: &mut ProblemLeaves) -> Head
     requires digits { IfSome read (λ s. IsLine s numbers.now.items) }
     ensures set { SetBy leaves.old.problem read numbers.now.items leaves.new.set result }
     ensures problem { leaves.new.problem ≡ leaves.old.problem }
@@ -72,7 +72,7 @@ fn after_set(read: Option<Shape>, numbers: &Wide, leaves: &mut RatioLeaves) -> H
 }
 
 /// What comes after the value's line.
-fn after_value(read: Option<Shape>, numbers: &Wide, leaves: &RatioLeaves) -> Head
+fn after_value(read: Option<Shape>, numbers: &Wide, leaves: &ProblemLeaves) -> Head
     ensures { ValueBy leaves.now.problem read numbers.now.items leaves.now.set result }
 {
     if is_shape(read, Shape::Value) && leaves.says(numbers) {
@@ -87,7 +87,7 @@ pub(crate) fn after(
     line: &[u8],
     read: Option<Shape>,
     numbers: &Wide,
-    leaves: &mut RatioLeaves,
+    leaves: &mut ProblemLeaves,
 ) -> Head
     requires head { ¬ (head ≡ Head.Tree) }
     requires read { IsRead line.now read numbers.now.items }

@@ -1,12 +1,12 @@
+//! The bound of a shelf where the settled products come first, by a table that is kept from leaf to leaf.
 ghost use Rattle.std.specs.Prelude.{◌≡◌, ℕ, ◌<◌, ◌≤◌, ◌^◌, ◌↔◌, false, length, cond, pos, IfOk, IfSome, IsTrue};
 ghost use Rattle.offer_model.specs.declared.node.Mark.TheVariants.{Open};
 ghost use Rattle.offer_model.specs.Problems.{product_count};
-ghost use Rattle.offer_model.specs.Nodes.{mark_at, is_in, fill_of};
+ghost use Rattle.offer_model.specs.Nodes.{mark_at, is_in, fill_of, IsSettledTo};
 ghost use Rattle.offer_model.specs.Prices.{worth_of};
 ghost use Rattle.offer_model.specs.LeafBounds.{shelf_space, shelf_bound};
 ghost use Rattle.linear_step.specs.Weights.{weight_at, prices_of, IsWithin, AreWeights};
 ghost use Rattle.shelf_table.specs.Tables.{space_of, price_in, IsTableOf};
-ghost use Rattle.proof_check.specs.Shelves.{AreFirstSettled};
 ghost use Rattle.proof_check.specs.Leaves.{space_for, HasTable};
 
 use crate::shelf::shelf;
@@ -40,7 +40,7 @@ fn all_open(node: &Node, k: usize) -> bool
 
 /// The number of settled products, where they come first.
 pub(crate) fn settled_first(node: &Node) -> Option<usize>
-    ensures { IfSome result (AreFirstSettled node.now) }
+    ensures { IfSome result (λ k. IsSettledTo k node.now) }
 {
     let k = first_open(node);
     if all_open(node, k) { Some(k) } else { None }
@@ -143,7 +143,7 @@ impl KeptTable {
         requires table { HasTable p.now self.old }
         requires weights { AreWeights p.now weights.now }
         requires node { length node.now ≡ product_count p.now }
-        requires settled { AreFirstSettled node.now k }
+        requires settled { IsSettledTo k node.now }
         ensures value { result ≡ shelf_bound p.now node.now (prices_of weights.now) }
         ensures table { HasTable p.now self.new }
     {

@@ -1,3 +1,4 @@
+//! The products of each ladder, found once for a problem.
 ghost use Rattle.std.specs.Prelude.{◌≡◌, ◌<◌, length, IfOk, IfSome};
 ghost use Rattle.offer_model.specs.Problems.{product_count};
 ghost use Rattle.offer_model.specs.LeafBounds.{ladder_of};

@@ -1,4 +1,4 @@
-//! Checks certificates line by line, for problems under logit and generalised attraction.
+//! Checks certificates line by line, for problems under every model.
 #![tactic(auto)]
 
 mod checker;
@@ -10,7 +10,10 @@ mod leaf;
 mod machine;
 mod numbers;
 mod potentials;
+mod problem_leaves;
 mod ratio_leaves;
+mod segment_leaves;
+mod segments;
 mod shelf;
 
 pub use checker::{Checker, Verdict};

@@ -1,12 +1,13 @@
 //! The machine of certificates: a header, then a tree.
 ghost use Rattle.std.specs.Prelude.{◌≡◌, ◌≤◌, [], ◌∷◌, IfOk};
 ghost use Rattle.offer_model.specs.Problems.{product_count};
-ghost use Rattle.offer_model.specs.Validity.{IsProblem, IsRatioModel};
+ghost use Rattle.offer_model.specs.Validity.{IsProblem};
+ghost use Rattle.proof_tree.specs.Stages.{BranchesOpen};
 ghost use Rattle.proof_check.specs.Waiting.{whole_tree};
 ghost use Rattle.proof_check.specs.Waiting.HeadPhase.{at_start};
 
 use crate::header::{Head, after};
-use crate::ratio_leaves::RatioLeaves;
+use crate::problem_leaves::ProblemLeaves;
 use offer_model::{NoMemory, Problem, Wide};
 use proof_lines::read_line;
 use proof_tree::{LineMachine, MOST_LINE, TreeProgress};
@@ -17,7 +18,7 @@ use std::marker::Model;
 #[derive(Drop)]
 pub(crate) struct Machine {
     head: Head,
-    leaves: RatioLeaves,
+    leaves: ProblemLeaves,
     tree: TreeProgress,
     numbers: Wide,
 }
@@ -37,13 +38,12 @@ impl Model for Machine {
 impl Machine {
     /// A machine that has read nothing. It takes all its memory here.
     pub(crate) fn new(alloc: Global, p: &Problem) -> Result<Machine, NoMemory>
-        requires { IsRatioModel p.now.model }
         ensures valid { IfOk result (λ m. IsProblem m.problem) }
         ensures problem { IfOk result (λ m. m.problem ≡ p.now) }
         ensures head { IfOk result (λ m. m.head ≡ at_start) }
         ensures tree { IfOk result (λ m. m.tree ≡ whole_tree m.problem) }
     {
-        let leaves = RatioLeaves::new(alloc, p)?;
+        let leaves = ProblemLeaves::new(alloc, p)?;
         let tree = TreeProgress::new(alloc, leaves.products())?;
         let mut numbers = Wide::new(alloc);
         numbers.reserve(MOST_LINE + 1)?;
@@ -57,7 +57,8 @@ impl Machine {
 
     /// How many branches are open.
     pub(crate) fn frames(&self) -> usize
-        ensures { result ≤ product_count self.now.problem }
+        ensures branches { BranchesOpen self.now.tree result }
+        ensures most { result ≤ product_count self.now.problem }
     {
         self.tree.frames()
     }

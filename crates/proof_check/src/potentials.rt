@@ -1,3 +1,4 @@
+//! Potentials of ladders: whether a leaf's numbers may be the potentials at its node, and their bound.
 ghost use Rattle.std.specs.Prelude.{◌≡◌, ℕ, List, ◌∷◌, ◌+◌, ◌*◌, ◌<◌, ◌≤◌, ◌^◌, ◌↔◌, length, IfOk, IsTrue};
 ghost use Rattle.offer_model.specs.Assortments.{offers};
 ghost use Rattle.offer_model.specs.Problems.{product_count};
@@ -10,10 +11,11 @@ ghost use Rattle.proof_check.specs.LadderLists.{IsLadderOf};
 ghost use Rattle.proof_check.specs.Leaves.{AreLaddersOf, HasSets};
 
 use crate::ladders::Ladders;
-use crate::numbers::{number_at, signed};
+use crate::numbers::signed;
 use limit_rules::may_stand;
 use linear_step::Weights;
 use linear_weights::plus;
+use multiplier_bound::number_at;
 use offer_model::{Assortment, Limit, Mark, NoMemory, Node, Problem, Product, Wide};
 use std::alloc::Global;
 

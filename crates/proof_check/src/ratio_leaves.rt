@@ -2,15 +2,15 @@
 ghost use Rattle.std.specs.Prelude.{◌≡◌, ◌≤◌, ◌↔◌, length, IfOk, IsTrue};
 ghost use Rattle.offer_model.specs.Problems.{product_count};
 ghost use Rattle.offer_model.specs.Limits.{IsFeasible};
-ghost use Rattle.offer_model.specs.Validity.{IsProblem, IsRatioModel};
+ghost use Rattle.offer_model.specs.Validity.{IsRatioModel};
 ghost use Rattle.proof_lines.specs.Lines.{AreDigits};
 ghost use Rattle.proof_lines.specs.Acceptance.{digits_of, value_numbers};
 ghost use Rattle.proof_check.specs.Judging.{AreOwnWeights};
 
-use crate::claim::{is_feasible, own_gain, own_weight, says_value, write_set};
+use crate::claim::{is_feasible, says_value, write_set};
 use crate::leaf::Leaves as LeafRoom;
 use linear_step::{Weights, weights_at};
-use offer_model::{Assortment, ModelName, NoMemory, Node, Problem, Wide};
+use offer_model::{Assortment, NoMemory, Node, Problem, Wide, revenue};
 use proof_lines::Shape;
 use proof_tree::Leaves;
 use std::alloc::Global;
@@ -26,9 +26,9 @@ pub(crate) struct RatioLeaves {
 }
 
 impl Model for RatioLeaves {
-    ghost use Rattle.proof_check.specs.Judging.{RatioData, IsRatio};
+    ghost use Rattle.proof_check.specs.Judging.{LeavesData, IsRatio};
 
-    ghost Value = { RatioData };
+    ghost Value = { LeavesData };
 
     ghost view = { λ s. record { problem = s.problem; set = s.set } };
 
@@ -43,17 +43,15 @@ fn weigh(p: &Problem, x: &Assortment, weights: &mut Weights)
     ensures own { AreOwnWeights p.now x.now weights.new }
     ensures room { product_count p.now ≤ weights.new.room }
 {
-    let gain = own_gain(p, x);
-    let weight = own_weight(p, x);
-    weights_at(p, gain, weight, weights);
+    let own = revenue(p, x);
+    weights_at(p, own.num, own.den, weights);
 }
 
 impl RatioLeaves {
     /// The leaves that are judged by the empty assortment.
     pub(crate) fn new(alloc: Global, p: &Problem) -> Result<RatioLeaves, NoMemory>
         requires { IsRatioModel p.now.model }
-        ensures valid { IfOk result (λ s. IsProblem s.problem) }
-        ensures problem { IfOk result (λ s. s.problem ≡ p.now) }
+        ensures { IfOk result (λ s. s.problem ≡ p.now) }
     {
         let problem = p.copy(alloc)?;
         let n = problem.products().len();
@@ -69,18 +67,11 @@ impl RatioLeaves {
         })
     }
 
-    /// How many products there are.
-    pub(crate) fn products(&self) -> usize
-        ensures { result ≡ product_count self.now.problem }
+    /// The problem.
+    pub(crate) fn problem(&self) -> &Problem
+        ensures { result.now ≡ self.now.problem }
     {
-        self.problem.products().len()
-    }
-
-    /// The problem's model.
-    pub(crate) fn model(&self) -> ModelName
-        ensures { result ≡ self.now.problem.model }
-    {
-        self.problem.model()
+        &self.problem
     }
 
     /// Judges by the assortment of these digits from now on, and says whether it is feasible.

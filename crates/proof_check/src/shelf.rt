@@ -1,3 +1,4 @@
+//! The bound of a shelf at any node, by one row of the table over products and space.
 ghost use Rattle.std.specs.Prelude.{◌≡◌, ℕ, ◌+◌, ◌<◌, ◌≤◌, ◌^◌, true, length, IfOk, IfSome};
 ghost use Rattle.offer_model.specs.Problems.{product_count};
 ghost use Rattle.offer_model.specs.LeafBounds.{greater_of, raised_by, leaving_out, offering, best_in_space, shelf_space, shelf_bound};
