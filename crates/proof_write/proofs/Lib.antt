@@ -9,4 +9,6 @@ pub mod DecideLemmas
 pub mod ZeroLemmas
 pub mod SettledLemmas
 pub mod SearchLemmas
+pub mod ZeroRuleLemmas
+pub mod MixedRuleLemmas
 pub mod SearchProofLemmas

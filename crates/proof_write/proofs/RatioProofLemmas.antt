@@ -27,12 +27,13 @@ use Rattle.proof_tree.specs.Pens.{lines_data}
 use Rattle.proof_tree.specs.Puts.{Puts}
 use Rattle.proof_tree.specs.Rules.{IsRuleTree}
 use Rattle.proof_tree.specs.Trees.{TextTree, tree_texts, end_text}
+use Rattle.proof_write.specs.HeaderLines.{IsHeader}
 use Rattle.proof_write.specs.Leaves.{mark_of, path_node, side_node, leaf_at, IsPrintable, AreLeaves}
 use Rattle.proof_write.specs.PathRules.{PathLeaf, PathBranch}
 use Rattle.proof_write.proofs.ClosingLemmas.{leaf_of, says_closes, shape_for, exact_is, says_fits, says_printable}
 use Rattle.proof_write.proofs.LineLemmas.{branch_is_line}
 use Rattle.proof_write.proofs.PathLemmas.{node-open, node-mark, node-next, side-beside, last-beside, end-inside, path_tree, path_is_rule}
-use Rattle.proof_write.proofs.WrittenLemmas.{IsHeader, written, WritesProof, writes_proof}
+use Rattle.proof_write.proofs.WrittenLemmas.{IsClaimed, written, ratio_form, WritesProof, writes_proof}
 
 -- The best assortment of a problem with limits of one kind, and what closes the nodes beside it.
 pub record IsProved (p : ProblemData) (x : List Bool) (leaves : List LineData) : Type 0 where
@@ -139,13 +140,13 @@ path_along p x leaves f (suc more) k e = (
 -- ---- The text.
 
 -- Where the bytes of the rule's tree are written, those of a certificate are.
-pub path_writes : {T E : Type 0} (p : ProblemData) (x : List Bool) (value : List ℕ) (leaves : List LineData) (header : List Line) (old new : StoreView) (result : Result T E)
-    (n : ℕ) → n ≡ length x → IsHeader p x value header → IsProved p x leaves
+pub path_writes : {T E : Type 0} (p : ProblemData) (x : List Bool) (leaves : List LineData) (header : List Line) (old new : StoreView) (result : Result T E)
+    (n : ℕ) → n ≡ length x → IsClaimed p x → IsHeader p x header → IsProved p x leaves
     → ((tree : TextTree) → IsRuleTree (PathLeaf (record { best = x; leaves = leaves })) (PathBranch (record { best = x; leaves = leaves })) (open_node n) tree
     → Puts old (text_of (lines_data header) ++ joined (tree_texts tree (end_text ∷ []))) result new)
     → WritesProof p old result new
-path_writes p x value leaves header old new result n is g f h =
-    writes_proof p x value tree header old new result g (written p x value tree g.claim closed lines form)
+path_writes p x leaves header old new result n is c g f h =
+    writes_proof p x tree header old new result g (written p x tree c closed lines (ratio_form p x tree f.ratio form))
     (h (text_tree tree) (subst (λ n. IsRuleTree L B n (text_tree tree)) (sym (ap open_node is ∙ node-open x)) (path_is_rule x leaves (offered_end x) 0 (omega arith))))
   where
     L : List Mark → List ℕ → Type 0
@@ -165,7 +166,7 @@ path_writes p x value leaves header old new result n is g f h =
 
     lines : AreLines (tree_lines tree (line S.End [] ∷ []))
     lines = tree_lines-are x leaves (AreLeaves-printable p (own_prices p x) x (offered_end x) leaves f.valid f.closed)
-        (offered_end x) 0 (let each = f.closed.each in omega arith) (let inside = end-inside x in let few = g.claim.few in omega arith) (line S.End [] ∷ []) (refl, tt)
+        (offered_end x) 0 (let each = f.closed.each in omega arith) (let inside = end-inside x in let few = c.few in omega arith) (line S.End [] ∷ []) (refl, tt)
 
     form : RatioForm p x (exact_leaf p.limits) tree
     form = subst (λ s. RatioForm p x s tree) (sym (exact_is p.limits f.kind))

@@ -1,73 +1,25 @@
 -- Nodes in which each product is settled.
-use Rattle.std.proofs.Common.{◌≡◌, ◌≢◌, ◌∙◌, ℕ, zero, suc, ◌<◌, ◌⊎◌, Bool, true, IsTrue, List, [], ◌∷◌, length, get_or, refl, sym, arith, subst, inl, inr}
+use Rattle.std.proofs.Common.{◌≡◌, ◌≢◌, ◌∙◌, ℕ, zero, suc, ◌<◌, ◌⊎◌, Bool, List, [], ◌∷◌, length, refl, sym, arith, subst, inl, inr}
 use Rattle.std.specs.Prelude.{Some, pos, ◌≤ℤ◌, ◌<ℤ◌}
-use Rattle.std.proofs.lemmas.List.{length-map}
 use lib.IntN.{ℤ}
 use Rattle.offer_model.specs.declared.node.Mark.{Mark}
 use Rattle.offer_model.specs.declared.node.Mark.TheVariants.{In, Out, Open}
-use Rattle.offer_model.specs.declared.products.Limit.{Limit}
-use Rattle.offer_model.specs.declared.products.Limit.TheVariants.{Total, Category, Requires, Shelf, Ladder}
-use Rattle.offer_model.specs.Assortments.{IsBefore, offers}
+use Rattle.offer_model.specs.Assortments.{IsBefore}
 use Rattle.offer_model.specs.Problems.{ProblemData, product_count}
 use Rattle.offer_model.specs.Validity.{IsRatioModel}
-use Rattle.offer_model.specs.Limits.{Meets, IsFeasible}
-use Rattle.offer_model.specs.Nodes.{mark_at, is_in, fill_of, ClashesAt, Clashes}
+use Rattle.offer_model.specs.Limits.{IsFeasible}
+use Rattle.offer_model.specs.Nodes.{mark_at, fill_of, Clashes}
 use Rattle.offer_model.specs.Prices.{worth_of}
 use Rattle.offer_model.specs.Best.{IsBest}
 use Rattle.offer_model.specs.Branching.{IsFirstOpen}
 use Rattle.offer_model.proofs.TieLemmas.{IsBefore-asym}
-use Rattle.multiplier_bound.proofs.PriceLemmas.{get_or_any}
+use Rattle.offer_model.proofs.FullNodeLemmas.{full_feasible}
 use Rattle.proof_lines.specs.declared.line.Shape.TheVariants as S
 use Rattle.proof_lines.specs.Closing.{own_prices, BoundCloses, Closes}
 use Rattle.proof_write.specs.ZeroRules.{zeros_of}
 use Rattle.proof_write.proofs.ClosingLemmas.{sign, low, tied, earns_by_ratio, by_ratio_earns}
-use Rattle.proof_write.proofs.DecideLemmas.{Decided, meets}
-use Rattle.proof_write.proofs.ZeroLemmas.{fill_offers, settled_bound, zeros_close}
-
--- Each product is settled.
-abbrev pub IsSettled : List Mark → Type 0
-IsSettled node = (i : ℕ) → i < length node → mark_at node i ≢ Open
-
--- ---- Such a node that doesn't clash is filled by a feasible assortment.
-
-in_of : (m : Mark) → is_in m ≡ true → m ≡ In
-in_of In h = refl
-in_of Out h = cc
-in_of Open h = cc
-
-settled_past : (node : List Mark) → IsSettled node → (i : ℕ) → mark_at node i ≢ Open
-settled_past [] s i e = cc
-settled_past (m ∷ node) s zero e = s zero (omega arith) e
-settled_past (m ∷ node) s (suc i) e = settled_past node (λ j l. s (suc j) (omega arith)) i e
-
--- What isn't Out is In.
-in_by : (m : Mark) → m ≢ Open → (m ≡ Out → ⊥) → is_in m ≡ true
-in_by In s n = refl
-in_by Out s n = absurd (n refl)
-in_by Open s n = absurd (s refl)
-
-unbroken : (p : ProblemData) (x : List Bool) (limit : Limit) → ((Meets p x limit → ⊥) → ⊥) → Meets p x limit
-unbroken p x limit h = by_case (meets p x limit)
-  where
-    by_case : Decided (Meets p x limit) → Meets p x limit
-    by_case (inl m) = m
-    by_case (inr n) = absurd (h n)
-
-meets_limit : (p : ProblemData) (node : List Mark) → IsSettled node → (limit : Limit) → (ClashesAt p node limit → ⊥) → Meets p (fill_of node) limit
-meets_limit p node s (Requires a b) free = λ (offered : IsTrue (offers (fill_of node) a)).
-    let first = in_of (mark_at node a) (sym (fill_offers node a) ∙ offered) in
-    fill_offers node b ∙ in_by (mark_at node b) (settled_past node s b) (λ out. free (first, out))
-meets_limit p node s (Total cap) free = unbroken p (fill_of node) (Total cap) free
-meets_limit p node s (Category c cap) free = unbroken p (fill_of node) (Category c cap) free
-meets_limit p node s (Shelf space) free = unbroken p (fill_of node) (Shelf space) free
-meets_limit p node s (Ladder l) free = unbroken p (fill_of node) (Ladder l) free
-
-settled_feasible : (p : ProblemData) (node : List Mark) → IsSettled node → length node ≡ product_count p → (Clashes p node → ⊥) → IsFeasible p (fill_of node)
-settled_feasible p node s each free = (
-  length-map node is_in ∙ each,
-  λ k limit l. meets_limit p node s (get_or p.limits k limit)
-      (λ c. free (k, get_or p.limits k limit, l, get_or_any p.limits k limit (get_or p.limits k limit) l, c)),
-)
+use Rattle.proof_write.proofs.SearchLemmas.{IsSettled, settled_past}
+use Rattle.proof_write.proofs.ZeroLemmas.{settled_bound, zeros_close}
 
 -- ---- It is closed by multipliers that are all 0.
 
@@ -95,7 +47,7 @@ worth_closes p x node z ratio best feasible is =
 pub settled_closes : (p : ProblemData) (x : List Bool) (node : List Mark) → IsRatioModel p.model → IsBest p x → IsSettled node
     → length node ≡ product_count p → (Clashes p node → ⊥) → Closes p x node S.Multipliers (zeros_of p)
 settled_closes p x node ratio best s each free =
-    (zeros_close p x node ratio).1 (worth_closes p x node _ ratio best (settled_feasible p node s each free)
+    (zeros_close p x node ratio).1 (worth_closes p x node _ ratio best (full_feasible p node each (settled_past node s) free)
     (settled_bound p node (own_prices p x) (λ i l. s i (rw each l))))
 
 -- ---- A node that isn't closed has a product that isn't settled.

@@ -23,6 +23,7 @@ use Rattle.offer_model.specs.LeafBounds.{is_priced, priced_limits, priced_limit_
 use Rattle.linear_step.specs.Closings.{number_bound}
 use Rattle.multiplier_bound.specs.Fits.{AreNumbers, AreFit, IsRelaxed}
 use Rattle.multiplier_bound.specs.Pricing.{PriceListData, prices_in}
+use Rattle.offer_model.proofs.NodeLemmas.{offers-fill_of}
 use Rattle.multiplier_bound.proofs.PriceLemmas.{int_sum_same, greatest_same}
 use Rattle.multiplier_bound.proofs.RelaxLemmas.{kept_yes, kept_no}
 use Rattle.proof_lines.specs.declared.line.Shape.TheVariants as S
@@ -135,11 +136,6 @@ constant_kept p at =
 pub zeros_bound : (p : ProblemData) (node : List Mark) (at : Prices) → multipliers_bound p node (zeros_of p) at ≡ greatest_worth p node at
 zeros_bound p node at = greatest_same p node (relaxed p (zeros_of p) at) at (constant_kept p at) (λ i l. price_kept p at i)
 
-pub fill_offers : (node : List Mark) (i : ℕ) → offers (fill_of node) i ≡ is_in (mark_at node i)
-fill_offers [] i = refl
-fill_offers (m ∷ node) zero = refl
-fill_offers (m ∷ node) (suc i) = fill_offers node i
-
 settled_adds : (m : Mark) (b : Bool) (z : ℤ) → m ≢ Open → b ≡ is_in m → most_of m z ≡ cond b z (pos 0)
 settled_adds In b z s e = rw e refl
 settled_adds Out b z s e = rw e refl
@@ -151,7 +147,7 @@ pub settled_bound : (p : ProblemData) (node : List Mark) (at : Prices) → ((i :
 settled_bound p node at s =
     zeros_bound p node at ∙ ap (λ (z : ℤ). at.constant +ℤ z) (int_sum_same (product_count p) (λ i. most_of (mark_at node i) (at.price i))
     (λ i. cond (offers (fill_of node) i) (at.price i) (pos 0))
-    (λ i l. settled_adds (mark_at node i) (offers (fill_of node) i) (at.price i) (s i l) (fill_offers node i)))
+    (λ i l. settled_adds (mark_at node i) (offers (fill_of node) i) (at.price i) (s i l) (offers-fill_of node i)))
 
 -- ---- What they close.
 

@@ -16,6 +16,13 @@ pub record IsTurn (x : List Bool) (node : List Mark) (end k : ℕ) : Type 0 wher
   pub along : (i : ℕ) → i < k → mark_at node i ≡ mark_of (offers x i)
   pub off : k < end → mark_at node k ≢ mark_of (offers x k)
 
+-- The node settles the products below this depth and no others up to the end, all but the last of them as x does.
+pub record IsNear (x : List Bool) (node : List Mark) (end depth : ℕ) : Type 0 where
+  pub inside : depth ≤ end
+  pub along : (i : ℕ) → i + 1 < depth → mark_at node i ≡ mark_of (offers x i)
+  pub settled : (i : ℕ) → i < depth → mark_at node i ≢ Open
+  pub others : (i : ℕ) → depth ≤ i → i < end → mark_at node i ≡ Open
+
 -- What contracts see of the rule: the assortment, and the leaves beside the path and at its end.
 pub record PathData : Type 0 where
   pub best : List Bool

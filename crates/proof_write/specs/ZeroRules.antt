@@ -2,7 +2,7 @@
 use Rattle.std.specs.Prelude.{◌≡◌, ℕ, Bool, List, [], length, replicate}
 use Rattle.offer_model.specs.Best.{IsBest}
 use Rattle.offer_model.specs.LeafBounds.{priced_limits}
-use Rattle.offer_model.specs.Problems.{ProblemData, product_count}
+use Rattle.offer_model.specs.Problems.{ProblemData}
 use Rattle.offer_model.specs.Validity.{IsProblem, IsRatioModel}
 use Rattle.multiplier_bound.specs.Fits.{IsRelaxed}
 use Rattle.multiplier_bound.specs.Pricing.{PriceListData}
@@ -16,17 +16,11 @@ use Rattle.proof_tree.specs.Pens.{line_data}
 abbrev pub zeros_of : ProblemData → List ℕ
 zeros_of p = replicate (length (priced_limits p)) 0
 
--- What contracts see of the rule: the problem and its best assortment.
-pub record ZeroData : Type 0 where
-  pub problem : ProblemData
-  pub best : List Bool
-
--- The two leaves, the prices that multipliers of 0 make of those at the revenue of x, and room for a node's fill.
-pub record IsZeroRule (p : ProblemData) (x : List Bool) (clash zeros : Line) (prices : PriceListData) (fill : List Bool) : Type 0 where
+-- The two leaves, and the prices that multipliers of 0 make of those at the revenue of x.
+pub record IsZeroRule (p : ProblemData) (x : List Bool) (clash zeros : Line) (prices : PriceListData) : Type 0 where
   pub model : IsRatioModel p.model
   pub valid : IsProblem p
   pub best : IsBest p x
   pub clash_line : line_data clash ≡ line S.Clash []
   pub zeros_line : line_data zeros ≡ line S.Multipliers (zeros_of p)
   pub prices_are : IsRelaxed p (zeros_of p) (own_prices p x) prices
-  pub fill_is : length fill ≡ product_count p

@@ -1,18 +1,18 @@
 //! The header of a certificate.
 ghost use Rattle.std.specs.Prelude.{◌≡◌, ◌<◌, ◌≤◌, [], ◌∷◌, length, All, IfOk};
+ghost use Rattle.offer_model.specs.declared.products.ModelName.TheVariants.{Mixed};
 ghost use Rattle.offer_model.specs.Problems.{product_count};
 ghost use Rattle.offer_model.specs.Ranges.{gain_bound, weight_bound};
-ghost use Rattle.offer_model.specs.Validity.{IsRatioModel};
+ghost use Rattle.offer_model.specs.Validity.{IsProblem, IsRatioModel};
 ghost use Rattle.offer_model.specs.Prices.{prices_at};
-ghost use Rattle.offer_model.specs.declared.ranges.TheConstants.{MOST_PRODUCTS as most_products};
 ghost use Rattle.proof_lines.specs.Lines.{line};
 ghost use Rattle.proof_lines.specs.Closing.{own_prices};
 ghost use Rattle.proof_lines.specs.Acceptance.{digits_of, value_numbers};
 ghost use Rattle.proof_lines.specs.declared.line.Shape.TheVariants as Shapes;
 ghost use Rattle.proof_tree.specs.Pens.{IsWritable, line_data, lines_data};
-ghost use Rattle.proof_write.specs.HeaderLines.{header_lines};
+ghost use Rattle.proof_write.specs.HeaderLines.{IsHeader, IsValueLine};
 
-use offer_model::{Assortment, Fraction, ModelName, NoMemory, Problem, Wide, gain, weight};
+use offer_model::{Assortment, Fraction, NoMemory, Problem, Wide, mixed_value, revenue};
 use proof_lines::{Line, Shape};
 use std::alloc::Global;
 
@@ -24,14 +24,8 @@ pub(crate) fn earned_by(p: &Problem, x: &Assortment) -> Fraction
     ensures prices { own_prices p.now x.now ≡ prices_at p.now result.num result.den }
     ensures num { result.num < gain_bound }
     ensures den { (1 ≤ result.den) × (result.den < weight_bound) }
-    ensures few { length x.now ≤ most_products }
 {
-    let segments = p.segments().len();
-    prove!(segments == 1);
-    Fraction {
-        num: gain(p, 0, x),
-        den: weight(p, 0, x),
-    }
+    revenue(p, x)
 }
 
 /// A line without numbers.
@@ -59,10 +53,13 @@ fn set_line(alloc: Global, x: &Assortment) -> Result<Line, NoMemory>
     })
 }
 
-/// The value line.
-fn value_line(alloc: Global, earned: &Fraction) -> Result<Line, NoMemory>
-    ensures { IfOk result (λ l. line_data l ≡ line Shapes.Value (1 ∷ earned.now.num ∷ earned.now.den ∷ [])) }
+/// The value line of an assortment under logit and generalised attraction: what it earns.
+pub(crate) fn ratio_line(alloc: Global, p: &Problem, x: &Assortment) -> Result<Line, NoMemory>
+    requires model { IsRatioModel p.now.model }
+    requires length { length x.now ≡ product_count p.now }
+    ensures { IfOk result (λ l. IsValueLine p.now x.now (line_data l)) }
 {
+    let earned = earned_by(p, x);
     let mut numbers = Wide::new(alloc);
     numbers.reserve(3)?;
     numbers.push(1);
@@ -74,25 +71,41 @@ fn value_line(alloc: Global, earned: &Fraction) -> Result<Line, NoMemory>
     })
 }
 
-/// The lines of the header.
+/// The value line of an assortment under mixed logit: what it brings in all segments.
+pub(crate) fn units_line(alloc: Global, p: &Problem, x: &Assortment) -> Result<Line, NoMemory>
+    requires model { p.now.model ≡ Mixed }
+    requires length { length x.now ≡ product_count p.now }
+    ensures { IfOk result (λ l. IsValueLine p.now x.now (line_data l)) }
+{
+    let mut numbers = Wide::new(alloc);
+    numbers.reserve(2)?;
+    numbers.push(0);
+    numbers.push(mixed_value(p, x));
+    Ok(Line {
+        shape: Shape::Value,
+        numbers,
+    })
+}
+
+/// The lines of the header, with this value line.
 pub(crate) fn header_of(
     alloc: Global,
-    model: ModelName,
+    p: &Problem,
     x: &Assortment,
-    earned: &Fraction,
+    value: Line,
 ) -> Result<Vec<Line>, NoMemory>
-    requires num { earned.now.num < gain_bound }
-    requires den { earned.now.den < weight_bound }
-    requires few { length x.now ≤ most_products }
-    ensures lines { IfOk result (λ lines. lines_data lines.items
-        ≡ header_lines model x.now (1 ∷ earned.now.num ∷ earned.now.den ∷ [])) }
+    requires length { length x.now ≡ product_count p.now }
+    requires value { IsValueLine p.now x.now (line_data value) }
+    ensures lines { IfOk result (λ lines. IsHeader p.now x.now lines.items) }
     ensures writable { IfOk result (λ lines. All IsWritable lines.items) }
+    ensures valid { IsProblem p.now }
 {
+    let model = p.model();
     let mut lines = Vec::new(alloc);
     lines.reserve(4)?;
     lines.push_reserved(bare(alloc, Shape::Start));
     lines.push_reserved(bare(alloc, Shape::Model(model)));
     lines.push_reserved(set_line(alloc, x)?);
-    lines.push_reserved(value_line(alloc, earned)?);
+    lines.push_reserved(value);
     Ok(lines)
 }

@@ -4,11 +4,14 @@
 mod faults;
 mod header;
 mod leaves;
+mod mixed;
+mod mixed_rule;
 mod path_rule;
 mod ratio;
 mod search;
 mod zero_rule;
 
 pub use faults::ProofFault;
+pub use mixed::write_mixed_proof;
 pub use ratio::write_ratio_proof;
 pub use search::write_search_proof;

@@ -1,8 +1,11 @@
 //! The rule of certificates for limits of one kind: a path along the best assortment.
-ghost use Rattle.std.specs.Prelude.{◌≡◌, ◌<◌, ◌≤◌, ◌↔◌, length, IsTrue};
+ghost use Rattle.std.specs.Prelude.{◌≡◌, ◌≢◌, ◌<◌, ◌≤◌, ◌↔◌, length, IsTrue};
+ghost use Rattle.offer_model.specs.Assortments.{offers};
 ghost use Rattle.offer_model.specs.Nodes.{mark_at};
 ghost use Rattle.offer_model.specs.declared.node.Mark.TheVariants.{Open};
-ghost use Rattle.proof_write.specs.PathRules.{IsTurn};
+ghost use Rattle.proof_lines.specs.Writing.{offered_end};
+ghost use Rattle.proof_write.specs.Leaves.{mark_of};
+ghost use Rattle.proof_write.specs.PathRules.{IsTurn, IsNear};
 
 use crate::leaves::mark_of;
 use offer_model::{Assortment, Bytes, Mark, Node};
@@ -29,18 +32,25 @@ impl<'a> Model for PathRule<'a> {
     ghost invariant = { λ r. IsPathRule r.best.now r.leaves.items r.end };
 }
 
-/// How many of the first `end` products the node settles as `x` does, up to the first that it doesn't.
-fn turn_of(x: &Assortment, node: &Node, end: usize) -> usize
-    requires each { length node.now ≡ length x.now }
-    requires end { end ≤ length x.now }
-    ensures { IsTurn x.now node.now end result }
+/// Whether the node settles product `i` otherwise than `x` does, or leaves it Open.
+fn strays(x: &Assortment, node: &Node, i: usize) -> bool
+    requires x { i < length x.now }
+    requires node { i < length node.now }
+    ensures { IsTrue result ↔ (mark_at node.now i ≢ mark_of (offers x.now i)) }
 {
-    for k in 0..end {
-        if node.mark(k) != mark_of(x.offers(k)) {
-            return k;
-        }
+    node.mark(i) != mark_of(x.offers(i))
+}
+
+/// The first product that the node, which stands at this depth, doesn't settle as `x` does: its last settled one, or the next.
+fn turn_of(x: &Assortment, node: &Node, depth: usize) -> usize
+    requires each { length node.now ≡ length x.now }
+    requires near { IsNear x.now node.now (offered_end x.now) depth }
+    ensures { IsTurn x.now node.now (offered_end x.now) result }
+{
+    if depth > 0 && strays(x, node, depth - 1) {
+        return depth - 1;
     }
-    end
+    depth
 }
 
 /// Whether product `k` is before the end, and Open.
@@ -61,8 +71,8 @@ impl<'a> TreeRule for PathRule<'a> {
 
     ghost BranchesOn = { λ r node i. PathBranch r node i };
 
-    fn leaf(&mut self, node: &Node, text: &mut Bytes) -> bool {
-        let k = turn_of(self.best, node, self.end);
+    fn leaf(&mut self, node: &Node, depth: usize, text: &mut Bytes) -> bool {
+        let k = turn_of(self.best, node, depth);
         if goes_on(node, k, self.end) {
             return false;
         }
@@ -70,7 +80,7 @@ impl<'a> TreeRule for PathRule<'a> {
         true
     }
 
-    fn branch(&self, node: &Node) -> usize {
-        turn_of(self.best, node, self.end)
+    fn branch(&self, node: &Node, depth: usize) -> usize {
+        turn_of(self.best, node, depth)
     }
 }

@@ -9,7 +9,7 @@ ghost use Rattle.limit_rules.specs.declared.kind.Kind.TheVariants.{General};
 ghost use Rattle.proof_write.specs.Outputs.{HasWritten, HasWrittenPart};
 
 use crate::faults::ProofFault;
-use crate::header::{earned_by, header_of};
+use crate::header::{earned_by, header_of, ratio_line};
 use crate::leaves::{end_of_offered, leaves_of};
 use crate::path_rule::PathRule;
 use linear_step::Closer;
@@ -47,7 +47,8 @@ pub fn write_ratio_proof<C: Closer, S: Store>(
     ensures fits { (q : ProblemData) → C.fits step.old q ↔ C.fits step.new q }
 {
     let earned = earned_by(p, x);
-    let header = header_of(alloc, p.model(), x, &earned)?;
+    let value = ratio_line(alloc, p, x)?;
+    let header = header_of(alloc, p, x, value)?;
     let leaves = leaves_of(alloc, p, x, &earned, step)?;
     let mut rule = PathRule {
         best: x,

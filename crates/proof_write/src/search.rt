@@ -8,7 +8,7 @@ ghost use Rattle.limit_rules.specs.declared.kind.Kind.TheVariants.{General};
 ghost use Rattle.proof_write.specs.Outputs.{HasWritten, HasWrittenPart};
 
 use crate::faults::ProofFault;
-use crate::header::{earned_by, header_of};
+use crate::header::{earned_by, header_of, ratio_line};
 use crate::zero_rule::ZeroRule;
 use offer_io::{Failed, Store};
 use offer_model::{Assortment, Problem};
@@ -18,7 +18,7 @@ use std::alloc::Global;
 /// Writes the certificate of the best assortment of a problem under logit or generalised attraction, with limits of several
 /// kinds, to the open output: at each node a clash, else multipliers that are all 0 where they close it, else a branch on the
 /// first Open product. Memory is taken only before anything is written: for the header, the path,
-/// a node's fill, prices of the products, multipliers of the limits, and one line.
+/// prices of the products, multipliers of the limits, and one line.
 pub fn write_search_proof<S: Store>(
     alloc: Global,
     p: &Problem,
@@ -41,7 +41,8 @@ pub fn write_search_proof<S: Store>(
     ensures ready { IsTrue (S.view store.old).steady → ¬ IsErrOf result ProofFault.WriteFault }
 {
     let earned = earned_by(p, x);
-    let header = header_of(alloc, p.model(), x, &earned)?;
+    let value = ratio_line(alloc, p, x)?;
+    let header = header_of(alloc, p, x, value)?;
     let mut rule = ZeroRule::new(alloc, p, x, &earned)?;
     let mut path = Path::new(alloc, p.products().len())?;
     let mut pen = Pen::new(alloc)?;

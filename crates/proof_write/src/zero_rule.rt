@@ -15,7 +15,7 @@ ghost use Rattle.proof_write.specs.ZeroRules.{zeros_of};
 
 use crate::header::bare;
 use crate::leaves::weights_of;
-use limit_rules::{clashes, fill_out};
+use limit_rules::{clashes, comes_after};
 use multiplier_bound::{Multipliers, PriceList};
 use offer_model::{Assortment, Bytes, Fraction, Limit, Mark, NoMemory, Node, Problem, Wide};
 use proof_lines::{Line, Shape, print_line};
@@ -24,7 +24,7 @@ use std::alloc::Global;
 use std::marker::Model;
 
 /// At each node `x` where it clashes; else `m` with all numbers 0, where that closes it; else a branch on the first Open
-/// product. It holds the two leaves, the prices under them at what the best assortment earns, and room for a node's fill.
+/// product. It holds the two leaves, and the prices under them at what the best assortment earns.
 #[derive(Drop)]
 pub(crate) struct ZeroRule<'a> {
     problem: &'a Problem,
@@ -32,17 +32,17 @@ pub(crate) struct ZeroRule<'a> {
     clash: Line,
     zeros: Line,
     prices: PriceList,
-    fill: Assortment,
 }
 
 impl<'a> Model for ZeroRule<'a> {
-    ghost use Rattle.proof_write.specs.ZeroRules.{ZeroData, IsZeroRule};
+    ghost use Rattle.proof_write.specs.Searches.{SearchData};
+    ghost use Rattle.proof_write.specs.ZeroRules.{IsZeroRule};
 
-    ghost Value = { ZeroData };
+    ghost Value = { SearchData };
 
     ghost view = { λ r. record { problem = r.problem.now; best = r.best.now } };
 
-    ghost invariant = { λ r. IsZeroRule r.problem.now r.best.now r.clash r.zeros r.prices r.fill };
+    ghost invariant = { λ r. IsZeroRule r.problem.now r.best.now r.clash r.zeros r.prices };
 }
 
 /// Whether the limit has a multiplier.
@@ -69,17 +69,14 @@ fn zeros_of(alloc: Global, p: &Problem) -> Result<Wide, NoMemory>
 }
 
 /// Whether a bound closes the node.
-fn bound_closes(bound: i128, x: &Assortment, node: &Node, fill: &mut Assortment) -> bool
-    requires set { length x.now ≡ length node.now }
-    requires fill { length fill.old ≡ length node.now }
-    ensures closes { IsTrue result ↔ BoundCloses x.now node.now (Some bound) }
-    ensures fill { length fill.new ≡ length node.now }
+fn bound_closes(bound: i128, x: &Assortment, node: &Node) -> bool
+    requires { length x.now ≡ length node.now }
+    ensures { IsTrue result ↔ BoundCloses x.now node.now (Some bound) }
 {
     if bound != 0 {
         return bound < 0;
     }
-    fill_out(node, fill);
-    !fill.before(x)
+    comes_after(node, x)
 }
 
 /// The first Open product.
@@ -116,7 +113,6 @@ impl<'a> ZeroRule<'a> {
         let numbers = zeros_of(alloc, problem)?;
         let mut prices = PriceList::new(alloc, n)?;
         Multipliers::new(alloc, problem)?.relax(problem, &weights, &numbers, &mut prices);
-        let fill = Assortment::empty(alloc, n)?;
         Ok(ZeroRule {
             problem,
             best,
@@ -126,18 +122,16 @@ impl<'a> ZeroRule<'a> {
                 numbers,
             },
             prices,
-            fill,
         })
     }
 
     /// Whether multipliers that are all 0 close the node.
-    fn closes(&mut self, node: &Node) -> bool
-        requires { length node.now ≡ product_count self.old.problem }
-        ensures closes { IsTrue result ↔ Closes self.old.problem self.old.best node.now Shapes.Multipliers (zeros_of self.old.problem) }
-        ensures same { self.new ≡ self.old }
+    fn closes(&self, node: &Node) -> bool
+        requires { length node.now ≡ product_count self.now.problem }
+        ensures { IsTrue result ↔ Closes self.now.problem self.now.best node.now Shapes.Multipliers (zeros_of self.now.problem) }
     {
         let bound = self.prices.greatest(self.problem, node);
-        bound_closes(bound, self.best, node, &mut self.fill)
+        bound_closes(bound, self.best, node)
     }
 }
 
@@ -153,7 +147,7 @@ impl<'a> TreeRule for ZeroRule<'a> {
 
     ghost BranchesOn = { λ _ node i. IsFirstOpen node i };
 
-    fn leaf(&mut self, node: &Node, text: &mut Bytes) -> bool {
+    fn leaf(&mut self, node: &Node, _depth: usize, text: &mut Bytes) -> bool {
         if clashes(self.problem, node) {
             print_line(&self.clash, text);
             return true;
@@ -165,8 +159,8 @@ impl<'a> TreeRule for ZeroRule<'a> {
         false
     }
 
-    fn branch(&self, node: &Node) -> usize {
-        let _ = &self.fill;
+    fn branch(&self, node: &Node, _depth: usize) -> usize {
+        let _ = &self.zeros;
         match first_open(node) {
             Some(i) => i,
             None => unreachable!(),

@@ -7,11 +7,11 @@ use Rattle.proof_write.specs.Leaves.{leaf_at}
 use Rattle.proof_write.specs.PathRules.{PathData}
 use Rattle.proof_write.proofs.LeafLemmas.{data_at}
 use Rattle.proof_write.proofs.PathLemmas.{end-inside}
-use Rattle.proof_write.proofs.PathRuleLemmas.{turn_seen, leaf_printable, says_leaf}
+use Rattle.proof_write.proofs.PathRuleLemmas.{turn_seen, leaf_printable, says_leaf, stands_near_seen}
 use Rattle.proof_write.proofs.path_rule.PathRuleTreeRule.leaf.Goals as goal
 
-pub turn_of-k-requires-clause-end : goal.turn_of-k-requires-clause-end
-turn_of-k-requires-clause-end c = let inside = end-inside c.self.inside.best.now in omega (arith, c.self.invariant.last)
+pub turn_of-k-requires-clause-near : goal.turn_of-k-requires-clause-near
+turn_of-k-requires-clause-near c = stands_near_seen c.args.self.now c.self.inside.best.now _ c.args.depth c.args.node.now c.self.view_is c.requires.stands
 
 pub goes_on-requires : goal.goes_on-requires
 goes_on-requires c =
@@ -21,11 +21,11 @@ goes_on-requires c =
 
 pub print_line-requires-clause-line : goal.print_line-requires-clause-line
 print_line-requires-clause-line c =
-    (leaf_printable c.self.inside.leaves.items c.turn_of-k.result c.index.result.now c.self.invariant.printable (omega (arith, c.self.invariant.each, c.turn_of-k.ensures.inside)) c.index.ensures).grammar
+    (leaf_printable c.self.inside.leaves.items c.turn_of-k.result c.index.result.now c.self.invariant.printable (omega (arith, c.self.invariant.each, c.self.invariant.last, c.turn_of-k.ensures.inside)) c.index.ensures).grammar
 
 pub print_line-requires-clause-room : goal.print_line-requires-clause-room
 print_line-requires-clause-room c =
-    let own = leaf_printable c.self.inside.leaves.items c.turn_of-k.result c.index.result.now c.self.invariant.printable (omega (arith, c.self.invariant.each, c.turn_of-k.ensures.inside)) c.index.ensures in
+    let own = leaf_printable c.self.inside.leaves.items c.turn_of-k.result c.index.result.now c.self.invariant.printable (omega (arith, c.self.invariant.each, c.self.invariant.last, c.turn_of-k.ensures.inside)) c.index.ensures in
     let short = line_short c.index.result.now.shape c.index.result.now.numbers.items own.grammar (omega (arith, own.few)) in
     omega (arith, c.requires.room)
 
@@ -35,9 +35,9 @@ returns-clause-leaf c =
     let k = c.turn_of-k.result in
     let best = ap (λ (z : PathData). z.best) c.self.view_is in
     let end : offered_end r.best ≡ c.self.inside.end = ap offered_end (sym best) ∙ sym c.self.invariant.last in
-    let is = ap (λ (z : PathData). leaf_at z.leaves k) (sym c.self.view_is) ∙ data_at c.self.inside.leaves.items k c.index.result.now (omega (arith, c.self.invariant.each, c.turn_of-k.ensures.inside)) c.index.ensures in
+    let is = ap (λ (z : PathData). leaf_at z.leaves k) (sym c.self.view_is) ∙ data_at c.self.inside.leaves.items k c.index.result.now (omega (arith, c.self.invariant.each, c.self.invariant.last, c.turn_of-k.ensures.inside)) c.index.ensures in
     says_leaf r c.args.node.now k (line_data c.index.result.now) c.print_line.new.out.items
-    (turn_seen r c.self.inside.best.now _ c.args.node.now c.self.inside.end k c.self.view_is c.self.invariant.last c.turn_of-k.ensures)
+    (turn_seen r c.self.inside.best.now _ c.args.node.now k c.self.view_is c.turn_of-k.ensures)
     (λ b o. untrue _ c.if-goes_on.false (c.goes_on.ensures.1 (subst (λ z. k < z) end b, o))) is
     (c.print_line.ensures.text ∙ ap (λ z. z ++ (line_text c.index.result.now.shape c.index.result.now.numbers.items ++ 10 ∷ [])) c.requires.empty)
   where
