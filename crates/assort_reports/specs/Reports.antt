@@ -3,7 +3,7 @@ use Rattle.std.specs.Prelude.{ℕ, List, [], ◌∷◌, ◌++◌, Bool, true, fa
 use Rattle.offer_model.specs.declared.products.ModelName.{ModelName}
 use Rattle.offer_model.specs.declared.products.ModelName.TheVariants.{Logit, Attract, Mixed, Chain}
 use Rattle.offer_model.specs.Problems.{ProblemData, product_count, first_segment}
-use Rattle.offer_model.specs.Revenue.{gain_of, weight_of}
+use Rattle.offer_model.specs.Revenue.{gain_of, weight_of, value_of}
 use Rattle.catalogue.specs.Rows.{RowData}
 
 abbrev pub model_text : ModelName → List ℕ
@@ -31,8 +31,21 @@ abbrev pub set_line : List Bool → List ℕ
 set_line x = codes "set " ++ word_text x ++ codes "\n"
 
 -- What it earns, as gain over weight, unreduced.
-abbrev pub value_line : ProblemData → List Bool → List ℕ
-value_line p x = codes "value " ++ decimal (gain_of p (first_segment p) x) ++ codes "/" ++ decimal (weight_of p (first_segment p) x) ++ codes "\n"
+abbrev pub ratio_line : ProblemData → List Bool → List ℕ
+ratio_line p x = codes "value " ++ decimal (gain_of p (first_segment p) x) ++ codes "/" ++ decimal (weight_of p (first_segment p) x) ++ codes "\n"
+
+-- What it brings in all segments, and the unit to which each segment's revenue is rounded down.
+abbrev pub mixed_lines : ProblemData → List Bool → List ℕ
+mixed_lines p x = codes "value " ++ decimal (value_of p x) ++ codes "\nunit " ++ decimal p.unit ++ codes "\n"
+
+abbrev pub value_lines_under : ModelName → ProblemData → List Bool → List ℕ
+value_lines_under Logit p x = ratio_line p x
+value_lines_under Attract p x = ratio_line p x
+value_lines_under Mixed p x = mixed_lines p x
+value_lines_under Chain p x = []
+
+abbrev pub value_lines : ProblemData → List Bool → List ℕ
+value_lines p x = value_lines_under p.model p x
 
 -- A product that is offered.
 abbrev pub offer_line : List ℕ → List ℕ
@@ -50,4 +63,4 @@ offer_lines (row ∷ rows) (b ∷ x) = offer_line_if b row.name ++ offer_lines r
 
 -- The report of an assortment.
 abbrev pub problem_report : List RowData → ProblemData → List Bool → List ℕ
-problem_report rows p x = head_lines p ++ offer_lines rows x ++ set_line x ++ value_line p x
+problem_report rows p x = head_lines p ++ offer_lines rows x ++ set_line x ++ value_lines p x

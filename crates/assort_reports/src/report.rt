@@ -1,12 +1,12 @@
+//! The report of an assortment: model, offers, set and value.
 ghost use Rattle.std.specs.Prelude.{◌≡◌, ◌++◌, ◌<◌, length, codes, decimal, OnOk, IfOk};
-ghost use Rattle.offer_model.specs.Problems.{product_count, first_segment};
-ghost use Rattle.offer_model.specs.Revenue.{gain_of, weight_of};
+ghost use Rattle.offer_model.specs.Problems.{product_count};
 ghost use Rattle.offer_model.specs.Validity.{IsRatioModel};
-ghost use Rattle.assort_reports.specs.Reports.{model_text, word_text, head_lines, set_line, value_line, digit_of, offer_line, offer_line_if, offer_lines, problem_report};
+ghost use Rattle.assort_reports.specs.Reports.{model_text, word_text, head_lines, set_line, ratio_line, mixed_lines, value_lines, digit_of, offer_line, offer_line_if, offer_lines, problem_report};
 
 use catalogue::Catalogue;
 use itoa::Buffer;
-use offer_model::{Assortment, Bytes, ModelName, NoMemory, Problem, gain, weight};
+use offer_model::{Assortment, Bytes, ModelName, NoMemory, Problem, mixed_value, revenue};
 use std::alloc::Global;
 
 /// Puts a piece last, and makes room for it first.
@@ -73,18 +73,40 @@ fn put_set(text: &mut Bytes, x: &Assortment) -> Result<(), NoMemory>
     put(text, b"\n")
 }
 
-fn put_value(text: &mut Bytes, p: &Problem, x: &Assortment) -> Result<(), NoMemory>
+fn put_ratio(text: &mut Bytes, p: &Problem, x: &Assortment) -> Result<(), NoMemory>
     requires model { IsRatioModel p.now.model }
     requires length { length x.now ≡ product_count p.now }
-    ensures { OnOk result (text.new.items ≡ text.old.items ++ value_line p.now x.now) }
+    ensures { OnOk result (text.new.items ≡ text.old.items ++ ratio_line p.now x.now) }
 {
-    let segments = p.segments().len();
-    prove!(segments == 1);
+    let earned = revenue(p, x);
     put(text, b"value ")?;
-    put_number(text, gain(p, 0, x))?;
+    put_number(text, earned.num)?;
     put(text, b"/")?;
-    put_number(text, weight(p, 0, x))?;
+    put_number(text, earned.den)?;
     put(text, b"\n")
+}
+
+fn put_mixed(text: &mut Bytes, p: &Problem, x: &Assortment) -> Result<(), NoMemory>
+    requires { length x.now ≡ product_count p.now }
+    ensures { OnOk result (text.new.items ≡ text.old.items ++ mixed_lines p.now x.now) }
+{
+    put(text, b"value ")?;
+    put_number(text, mixed_value(p, x))?;
+    put(text, b"\nunit ")?;
+    put_number(text, u128::from(p.unit()))?;
+    put(text, b"\n")
+}
+
+/// What the assortment earns.
+fn put_value(text: &mut Bytes, p: &Problem, x: &Assortment) -> Result<(), NoMemory>
+    requires { length x.now ≡ product_count p.now }
+    ensures { OnOk result (text.new.items ≡ text.old.items ++ value_lines p.now x.now) }
+{
+    match p.model() {
+        ModelName::Logit | ModelName::Attract => put_ratio(text, p, x),
+        ModelName::Mixed => put_mixed(text, p, x),
+        ModelName::Chain => unreachable!(),
+    }
 }
 
 fn put_offer(text: &mut Bytes, name: &str) -> Result<(), NoMemory>
@@ -115,14 +137,13 @@ fn put_offers(text: &mut Bytes, c: &Catalogue, x: &Assortment) -> Result<(), NoM
     Ok(())
 }
 
-/// The report of an assortment, for logit and generalised attraction.
+/// The report of an assortment.
 pub fn report_problem(
     alloc: Global,
     c: &Catalogue,
     p: &Problem,
     x: &Assortment,
 ) -> Result<Bytes, NoMemory>
-    requires model { IsRatioModel p.now.model }
     requires products { product_count p.now ≡ length c.now }
     requires length { length x.now ≡ length c.now }
     ensures { IfOk result (λ text. text.items ≡ problem_report c.now p.now x.now) }

@@ -1,17 +1,18 @@
 -- The word that is given for each key, and what a request without a missing key has.
-use Rattle.std.proofs.Common.{◌≡◌, refl, sym, subst, ℕ, zero, suc, List, [], ◌∷◌, slice_index_or, slice_set, Option, Some, None, is_some, unwrap_or, Bool, true, false, not, ◌&&◌, IsTrue, IsSome, IfSome, Bor, if◌then◌else◌, codes}
+use Rattle.std.proofs.Common.{◌≡◌, refl, sym, subst, ℕ, zero, suc, List, [], ◌∷◌, slice_index_or, slice_set, Option, Some, None, is_some, unwrap_or, Bool, true, false, not, ◌&&◌, IsTrue, IsSome, IfSome, Bor, if◌then◌else◌}
 use Rattle.std.specs.Prelude.{map}
 use Rattle.std.specs.Option.{option_copied, option_and_then}
 use Rattle.std.specs.List.{find}
-use Rattle.std.specs.Str.{bytes_eq}
 use Rattle.std.proofs.Math.ListN.{get_or-map}
 use Rattle.std.proofs.lemmas.List.{map-set}
 use Rattle.offer_model.specs.declared.ranges.TheConstants.{MOST_AMOUNT}
-use Rattle.offer_model.specs.declared.products.ModelName.TheVariants.{Logit, Attract}
+use Rattle.offer_model.specs.declared.products.ModelName.{ModelName}
+use Rattle.offer_model.specs.declared.products.ModelName.TheVariants.{Logit}
 use Rattle.assort_words.specs.declared.usage.Command.{Command}
 use Rattle.assort_words.specs.declared.usage.Key.{Key}
-use Rattle.assort_words.specs.declared.usage.Key.TheVariants.{Model, Products, Limits, NoneWeight, Proof, NoKey}
-use Rattle.assort_words.specs.declared.keys.Group.TheVariants.{Ratio}
+use Rattle.assort_words.specs.declared.usage.Key.TheVariants.{Model, Products, Limits, Segments, NoneWeight, Unit, Proof, NoKey}
+use Rattle.assort_words.specs.declared.keys.Group.{Group}
+use Rattle.assort_words.specs.declared.keys.Group.TheVariants as G
 use Rattle.assort_words.specs.Keys.{keys, index_of, domain_of, use_of, is_in_domain, is_among, is_needed, model_of, number_within}
 use Rattle.assort_words.specs.Asked.{RequestData, word_of, with_word, is_given, is_missing, asked_model, IsInDomains, IsComplete}
 
@@ -43,7 +44,9 @@ unfolding key_at
 key_at_index Model = refl
 key_at_index Products = refl
 key_at_index Limits = refl
+key_at_index Segments = refl
 key_at_index NoneWeight = refl
+key_at_index Unit = refl
 key_at_index Proof = refl
 key_at_index NoKey = refl
 
@@ -74,28 +77,31 @@ read_some : {T : Type 0} (o : Option (List ℕ)) (f : List ℕ → Option T) →
 read_some None f e h = absurd (cc)
 read_some (Some w) f e h = h
 
-is_ratio : (o : Option (List ℕ)) → is_among Ratio (unwrap_or (option_and_then model_of o) Logit) ≡ true
-is_ratio None = refl
-is_ratio (Some w) = by_tests (bytes_eq w (codes "logit")) (bytes_eq w (codes "attract"))
+-- a key that only some models need is given, where the model is one of these
+asked_given : (o : Option (List ℕ)) (g : Group) (given : Bool) → IsSome (option_and_then model_of o) → IfSome (option_and_then model_of o) (λ m. IsTrue (is_among g m))
+    → (is_among g (unwrap_or (option_and_then model_of o) Logit) && not given) ≡ false → not given ≡ false
+asked_given o g given some among e = by_model (option_and_then model_of o) some among e
   where
-    by_tests : (b b' : Bool) → is_among Ratio (unwrap_or (if b then Some Logit else (if b' then Some Attract else None)) Logit) ≡ true
-    by_tests true b' = refl
-    by_tests false true = refl
-    by_tests false false = refl
+    by_model : (m : Option ModelName) → IsSome m → IfSome m (λ n. IsTrue (is_among g n)) → (is_among g (unwrap_or m Logit) && not given) ≡ false → not given ≡ false
+    by_model None some among e = absurd (cc)
+    by_model (Some m) some among e = subst (λ (b : Bool). (b && not given) ≡ false) among e
 
 -- a request in its domains without a missing key
 pub has_all : (r : RequestData) → IsInDomains r → find (is_missing r) keys ≡ None → IsComplete r
 has_all r each e =
-    let model = none_found (is_missing r) Model (Products ∷ Limits ∷ NoneWeight ∷ Proof ∷ []) e in
-    let products = none_found (is_missing r) Products (Limits ∷ NoneWeight ∷ Proof ∷ []) model.1 in
-    let limits = none_found (is_missing r) Limits (NoneWeight ∷ Proof ∷ []) products.1 in
-    let none = none_found (is_missing r) NoneWeight (Proof ∷ []) limits.1 in
-    let proof = none_found (is_missing r) Proof [] none.1 in
-    let weight : not (is_given r NoneWeight) ≡ false = subst (λ (b : Bool). (b && not (is_given r NoneWeight)) ≡ false) (is_ratio (word_of r Model)) none.0 in
+    let model = none_found (is_missing r) Model (Products ∷ Limits ∷ Segments ∷ NoneWeight ∷ Unit ∷ Proof ∷ []) e in
+    let products = none_found (is_missing r) Products (Limits ∷ Segments ∷ NoneWeight ∷ Unit ∷ Proof ∷ []) model.1 in
+    let limits = none_found (is_missing r) Limits (Segments ∷ NoneWeight ∷ Unit ∷ Proof ∷ []) products.1 in
+    let segments = none_found (is_missing r) Segments (NoneWeight ∷ Unit ∷ Proof ∷ []) limits.1 in
+    let none = none_found (is_missing r) NoneWeight (Unit ∷ Proof ∷ []) segments.1 in
+    let unit = none_found (is_missing r) Unit (Proof ∷ []) none.1 in
+    let proof = none_found (is_missing r) Proof [] unit.1 in
+    let some : IsSome (asked_model r) = read_some (word_of r Model) model_of model.0 (each Model) in
     record {
-      model = read_some (word_of r Model) model_of model.0 (each Model);
+      model = some;
       products = given_some (word_of r Products) products.0;
-      none = read_some (word_of r NoneWeight) (number_within 1 MOST_AMOUNT) weight (each NoneWeight);
+      segments = λ mixed. given_some (word_of r Segments) (asked_given (word_of r Model) G.Mixed (is_given r Segments) some mixed segments.0);
+      none = λ ratio. read_some (word_of r NoneWeight) (number_within 1 MOST_AMOUNT) (asked_given (word_of r Model) G.Ratio (is_given r NoneWeight) some ratio none.0) (each NoneWeight);
       proof = λ check. given_some (word_of r Proof)
           (subst (λ (c : Command). (is_needed (use_of Proof c) (unwrap_or (asked_model r) Logit) && not (is_given r Proof)) ≡ false) check proof.0);
     }

@@ -10,13 +10,15 @@ use Rattle.assort_words.specs.declared.keys.TheConstants.{KEY_SLOTS}
 use Rattle.assort_words.specs.declared.usage.Command.{Command}
 use Rattle.assort_words.specs.declared.usage.Command.TheVariants.{Solve, Check}
 use Rattle.assort_words.specs.declared.usage.Key.{Key}
-use Rattle.assort_words.specs.declared.usage.Key.TheVariants.{Model, Products, Limits, NoneWeight, Proof, NoKey}
+use Rattle.assort_words.specs.declared.usage.Key.TheVariants.{Model, Products, Limits, Segments, NoneWeight, Unit, Proof, NoKey}
 use Rattle.assort_words.specs.declared.usage.UsageFault.{UsageFault}
 use Rattle.assort_words.specs.declared.usage.UsageCode.{UsageCode}
 use Rattle.assort_words.specs.declared.usage.UsageCode.TheVariants.{NoCommand, UnknownCommand, UnknownOption, RepeatedOption, MissingValue, Nested, BadValue, MissingOption, UnusedOption, ProofIsInput}
 use Rattle.assort_words.specs.declared.keys.Domain.{Domain}
 use Rattle.assort_words.specs.declared.keys.Domain.TheVariants.{Models, Files, Numbers}
-use Rattle.assort_words.specs.Keys.{keys, index_of, text_of, domain_of, use_of, model_of, number_within, is_in_domain, is_known, is_needed, is_used}
+use Rattle.assort_words.specs.declared.keys.Group.{Group}
+use Rattle.assort_words.specs.declared.keys.Group.TheVariants as G
+use Rattle.assort_words.specs.Keys.{keys, index_of, text_of, domain_of, use_of, model_of, number_within, is_in_domain, is_among, is_known, is_needed, is_used}
 
 -- A command, and for each key the word that is given, or none.
 pub record RequestData : Type 0 where
@@ -52,17 +54,28 @@ asked_products r = word_of r Products
 abbrev pub asked_limits : RequestData → Option (List ℕ)
 asked_limits r = word_of r Limits
 
+abbrev pub asked_segments : RequestData → Option (List ℕ)
+asked_segments r = word_of r Segments
+
 abbrev pub asked_none : RequestData → Option ℕ
 asked_none r = option_and_then (number_within 1 MOST_AMOUNT) (word_of r NoneWeight)
+
+abbrev pub asked_unit : RequestData → Option ℕ
+asked_unit r = option_and_then (number_within 1 MOST_AMOUNT) (word_of r Unit)
 
 abbrev pub asked_proof : RequestData → Option (List ℕ)
 asked_proof r = word_of r Proof
 
--- All that the command needs is given.
+-- The model that is asked for is one of the group's.
+abbrev pub IsAskedOf : Group → RequestData → Type 0
+IsAskedOf g r = IfSome (asked_model r) (λ m. IsTrue (is_among g m))
+
+-- All that the command and the model need is given.
 pub record IsComplete (r : RequestData) : Type 0 where
   pub model : IsSome (asked_model r)
   pub products : IsSome (asked_products r)
-  pub none : IsSome (asked_none r)
+  pub segments : IsAskedOf G.Mixed r → IsSome (asked_segments r)
+  pub none : IsAskedOf G.Ratio r → IsSome (asked_none r)
   pub proof : r.command ≡ Check → IsSome (asked_proof r)
 
 -- ---- Words, in pairs of a key and its word.
@@ -139,7 +152,7 @@ proof_is_input r = named (asked_proof r)
   where
     named : Option (List ℕ) → Bool
     named None = false
-    named (Some name) = is_named name (asked_products r) || is_named name (asked_limits r)
+    named (Some name) = is_named name (asked_products r) || is_named name (asked_limits r) || is_named name (asked_segments r)
 
 -- A request that has all that its command and model need and nothing else, and whose proof is none of its inputs.
 abbrev pub completed : RequestData → Result RequestData UsageFault

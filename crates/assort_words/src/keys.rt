@@ -7,16 +7,18 @@ use crate::values::{read_model, read_within};
 use offer_model::{MOST_AMOUNT, ModelName};
 
 /// The keys, in the order in which they are looked at.
-pub(crate) const KEYS: [Key; 5] = [
+pub(crate) const KEYS: [Key; 7] = [
     Key::Model,
     Key::Products,
     Key::Limits,
+    Key::Segments,
     Key::NoneWeight,
+    Key::Unit,
     Key::Proof,
 ];
 
 /// A slot for each `Key`, with `NoKey`, whose slot stays empty.
-pub const KEY_SLOTS: usize = 6;
+pub const KEY_SLOTS: usize = 8;
 
 /// The values that a key may have.
 #[derive(Clone, Copy)]
@@ -34,6 +36,8 @@ pub enum Domain {
 pub enum Group {
     /// Logit and attraction, whose revenue is one ratio.
     Ratio,
+    /// Mixed logit, whose customers differ by segment.
+    Mixed,
 }
 
 /// What a command makes of a key.
@@ -58,7 +62,9 @@ impl Key {
             Key::Model => "--model",
             Key::Products => "--products",
             Key::Limits => "--limits",
+            Key::Segments => "--segments",
             Key::NoneWeight => "--none",
+            Key::Unit => "--unit",
             Key::Proof => "--proof",
             Key::NoKey => "",
         }
@@ -75,8 +81,8 @@ impl Key {
     {
         match self {
             Key::Model => Domain::Models,
-            Key::NoneWeight => Domain::Numbers(1, MOST_AMOUNT),
-            Key::Products | Key::Limits | Key::Proof | Key::NoKey => Domain::Files,
+            Key::NoneWeight | Key::Unit => Domain::Numbers(1, MOST_AMOUNT),
+            Key::Products | Key::Limits | Key::Segments | Key::Proof | Key::NoKey => Domain::Files,
         }
     }
 
@@ -87,7 +93,9 @@ impl Key {
             (Key::Model, _) => Use::Must,
             (Key::Products, _) => Use::Must,
             (Key::Limits, _) => Use::May,
+            (Key::Segments, _) => Use::MustWith(Group::Mixed),
             (Key::NoneWeight, _) => Use::MustWith(Group::Ratio),
+            (Key::Unit, _) => Use::MayWith(Group::Mixed),
             (Key::Proof, Command::Solve) => Use::May,
             (Key::Proof, Command::Check) => Use::Must,
             (Key::NoKey, _) => Use::Never,
@@ -113,6 +121,7 @@ impl Group {
     {
         match self {
             Group::Ratio => matches!(model, ModelName::Logit | ModelName::Attract),
+            Group::Mixed => model == ModelName::Mixed,
         }
     }
 }

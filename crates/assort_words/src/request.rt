@@ -1,9 +1,10 @@
 //! What is asked for: a command, and the word that is given for each key.
-ghost use Rattle.std.specs.Prelude.{◌≡◌, IfSome, IsTrue};
+ghost use Rattle.std.specs.Prelude.{◌≡◌, ◌≢◌, IfSome, IsTrue};
 ghost use Rattle.std.specs.Option.{option_copied};
-ghost use Rattle.offer_model.specs.Validity.{IsPositiveAmount, IsRatioModel};
+ghost use Rattle.offer_model.specs.Validity.{IsPositiveAmount};
+ghost use Rattle.offer_model.specs.declared.products.ModelName.TheVariants as name;
 ghost use Rattle.assort_words.specs.Keys.{domain_of, is_in_domain};
-ghost use Rattle.assort_words.specs.Asked.{IsInDomains, bare_request, word_of, with_word, is_given, asked_model, asked_products, asked_limits, asked_none, asked_proof};
+ghost use Rattle.assort_words.specs.Asked.{IsInDomains, bare_request, word_of, with_word, is_given, asked_model, asked_products, asked_limits, asked_segments, asked_none, asked_unit, asked_proof};
 
 use crate::keys::KEY_SLOTS;
 use crate::usage::{Command, Key};
@@ -70,10 +71,10 @@ impl<'a> Request<'a> {
         self.command
     }
 
-    /// `None` exactly where the key isn't given; so do the next four.
+    /// `None` exactly where the key isn't given; so do the next six.
     pub fn model(&self) -> Option<ModelName>
         ensures value { result ≡ asked_model self.now }
-        ensures ratio { IfSome result IsRatioModel }
+        ensures problem { IfSome result (λ m. m ≢ name.Chain) }
         ensures valid { IsInDomains self.now }
     {
         read_model(self.word(Key::Model)?)
@@ -91,11 +92,24 @@ impl<'a> Request<'a> {
         self.word(Key::Limits)
     }
 
+    pub fn segments(&self) -> Option<&'a str>
+        ensures { option_copied result ≡ asked_segments self.now }
+    {
+        self.word(Key::Segments)
+    }
+
     pub fn none(&self) -> Option<u64>
         ensures value { result ≡ asked_none self.now }
         ensures valid { IfSome result IsPositiveAmount }
     {
         read_within(self.word(Key::NoneWeight)?, 1, MOST_AMOUNT)
+    }
+
+    pub fn unit(&self) -> Option<u64>
+        ensures value { result ≡ asked_unit self.now }
+        ensures valid { IfSome result IsPositiveAmount }
+    {
+        read_within(self.word(Key::Unit)?, 1, MOST_AMOUNT)
     }
 
     pub fn proof(&self) -> Option<&'a str>

@@ -12,8 +12,11 @@ pub enum Key {
     Model,
     Products,
     Limits,
+    Segments,
     /// `--none`, the weight of buying nothing.
     NoneWeight,
+    /// `--unit`, the step to which a segment's revenue is rounded down.
+    Unit,
     Proof,
     /// A fault that is about no key has this one.
     NoKey,

@@ -1,19 +1,22 @@
 //! The values of keys, read from their words.
-ghost use Rattle.std.specs.Prelude.{◌≡◌, ◌≤◌, IfSome};
-ghost use Rattle.offer_model.specs.Validity.{IsRatioModel};
+ghost use Rattle.std.specs.Prelude.{◌≡◌, ◌≢◌, ◌≤◌, IfSome};
+ghost use Rattle.offer_model.specs.declared.products.ModelName.TheVariants as name;
 ghost use Rattle.assort_words.specs.Keys.{model_of, number_within};
 
 use offer_model::{ModelName, read_number};
 
 pub(crate) fn read_model(word: &str) -> Option<ModelName>
     ensures value { result ≡ model_of word.now }
-    ensures ratio { IfSome result IsRatioModel }
+    ensures problem { IfSome result (λ m. m ≢ name.Chain) }
 {
     if word == "logit" {
         return Some(ModelName::Logit);
     }
     if word == "attract" {
         return Some(ModelName::Attract);
+    }
+    if word == "mixed" {
+        return Some(ModelName::Mixed);
     }
     None
 }

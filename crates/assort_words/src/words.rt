@@ -139,7 +139,9 @@ fn proof_is_input(request: &Request<'_>) -> bool
     let Some(proof) = request.proof() else {
         return false;
     };
-    is_named(proof, request.products()) || is_named(proof, request.limits())
+    is_named(proof, request.products())
+        || is_named(proof, request.limits())
+        || is_named(proof, request.segments())
 }
 
 /// A request that has all that its command and model need, and nothing else.
