@@ -1,105 +1,106 @@
--- What the files of a request give, from what was loaded and read.
-use Rattle.std.proofs.Common.{◌≡◌, ◌∙◌, arith, subst, sym, refl, ap, ℕ, ◌<◌, ◌≤◌, List, length, true, false, nat_le, Option, Some, Result, Ok, Err}
+-- Why a stage stops a run, and what the stages of a request give, from what was loaded and read.
+use Rattle.std.proofs.Common.{◌≡◌, ◌∙◌, arith, subst, sym, refl, ap, suc, ℕ, ◌≤◌, List, length, take, Some, None, Result, Ok, Err, IsTrue}
+use Rattle.std.specs.Prelude.{Contains, slice_get}
 use Rattle.catalogue.specs.declared.faults.Code.{Code}
-use Rattle.offer_model.specs.declared.products.ModelName.{ModelName}
 use Rattle.catalogue.specs.declared.faults.FileName.{FileName}
-use Rattle.catalogue.specs.declared.faults.FileName.TheVariants.{Products, Limits, Segments, Arcs, Proof, Offer}
 use Rattle.catalogue.specs.declared.faults.InputFault.{InputFault}
 use Rattle.catalogue.specs.declared.faults.InputFault.TheVariants.{Fault}
-use Rattle.catalogue.specs.Sizes.{most_table}
+use Rattle.catalogue.specs.declared.faults.InputFault.TheVariants as fault
 use Rattle.catalogue.specs.Faults.{OnFault}
-use Rattle.catalogue.specs.ProductTables.{products_outcome}
-use Rattle.catalogue.specs.LimitTables.{limits_outcome}
 use Rattle.catalogue.specs.Rows.{RowData}
+use Rattle.catalogue.specs.ProductTables.{products_outcome}
+use Rattle.catalogue.specs.SegmentTables.{NamedSegment, segments_outcome}
+use Rattle.offer_model.specs.declared.products.ModelName.{ModelName}
 use Rattle.offer_io.specs.Causes.{Rose}
 use Rattle.offer_io.specs.Stores.{StoreView, Passes}
-use Rattle.offer_model.specs.declared.products.Limit.{Limit}
-use Rattle.assort_core.specs.declared.stops.Stop.{Stop}
-use Rattle.assort_core.specs.declared.stops.Stop.TheVariants.{Unread, Faulty, UnwrittenProof, NoMemory}
-use Rattle.assort_core.specs.Runs.{CannotRead, CannotReadFile, FilesStand}
-use Rattle.assort_core.specs.Stops.{WhyStopped, WhyUnloaded}
-use Rattle.std.specs.Prelude.{Contains, IsTrue}
-use Rattle.std.proofs.lemmas.Bool.Decides.{nat_tests}
-use Rattle.catalogue.specs.declared.faults.Code.TheVariants.{TooLarge}
-use Rattle.assort_words.specs.Asked.{RequestData, asked_model, asked_products, asked_limits}
+use Rattle.assort_words.specs.Asked.{RequestData}
+use Rattle.assort_core.specs.declared.stop.Stop.{Stop}
+use Rattle.assort_core.specs.declared.stop.Stop.TheVariants.{Unread, Faulty, UnwrittenProof, NoMemory}
 use Rattle.assort_core.specs.Lines.{fault_line}
-use Rattle.assort_core.specs.Judged.{given_by, given_products, given_limits, judged, products_name, proof_name}
-use Rattle.assort_core.specs.Outcomes.{IsAnswerTo, answer, refusal}
+use Rattle.assort_core.specs.Stages.{InputsData, no_inputs, Stage, stages, with_part, unit_of, model_asked}
+use Rattle.assort_core.specs.Judged.{Files, given_by, judged, GivesBefore}
+use Rattle.assort_core.specs.Deeds.{answer, refusal}
+use Rattle.assort_core.specs.Outcomes.{IsAnswerTo}
+use Rattle.assort_core.specs.Runs.{CannotRead, FilesStand}
+use Rattle.assort_core.specs.Stops.{WhyStopped, WhyUnloaded, stop_by}
+use Rattle.assort_core.proofs.StageLemmas.{unasked_given, loaded_given, large_given, next_given, fault_given}
 
-le_false : (n m : ℕ) → m < n → nat_le n m ≡ false
-le_false n m h = grind (arith, nat_tests)
+-- A fault among the files is the answer.
+pub faulty_answer : (r : RequestData) (file : Files) (f : FileName) (row : ℕ) (code : Code) → judged r file ≡ Some (Err (Fault f row code))
+    → IsAnswerTo r file (refusal 3 (fault_line f row code))
+faulty_answer r file f row code e = rw e refl
 
-le_true : (n m : ℕ) → n ≤ m → nat_le n m ≡ true
-le_true n m h = grind arith
-
--- A table file that is there and not too large.
-pub given_table : {A : Type 0} (name : FileName) (outcome : List ℕ → Result A InputFault) (file : Option (List ℕ)) (bytes : List ℕ) (o : Result A InputFault)
-    → file ≡ Some bytes → length bytes ≤ most_table → outcome bytes ≡ o → given_by name outcome file ≡ Some o
-given_table name outcome file bytes o there fits is = rw (there, le_true (length bytes) most_table fits, is) refl
-
--- A products file that is refused.
-pub products_refused : (r : RequestData) (file : List ℕ → Option (List ℕ)) (name bytes slice : List ℕ) (model : ModelName) (e : InputFault) (f : FileName) (row : ℕ) (code : Code)
-    → Some name ≡ asked_products r → Some model ≡ asked_model r → file name ≡ Some bytes → length bytes ≤ most_table → slice ≡ bytes → e ≡ Fault f row code
-    → OnFault e (products_outcome model slice ≡ Err e) → IsAnswerTo r file (refusal 3 (fault_line f row code))
-products_refused r file name bytes slice model e f row code named under there fits same fault is =
-    let known : OnFault (Fault f row code) (products_outcome model slice ≡ Err (Fault f row code)) = subst (λ z. OnFault z (products_outcome model slice ≡ Err z)) fault is in
-    let read : products_outcome model bytes ≡ Err (Fault f row code) = subst (λ b. products_outcome model b ≡ Err (Fault f row code)) same known in
-    let given : given_products r file ≡ Some (Err (Fault f row code)) = rw (sym named, sym under) (given_table Products (products_outcome model) (file name) bytes (Err (Fault f row code)) there fits read) in
-    rw given refl
-
--- A products file that is read.
-pub products_given : (r : RequestData) (file : List ℕ → Option (List ℕ)) (name bytes slice : List ℕ) (model : ModelName) (rows : List RowData)
-    → Some name ≡ asked_products r → Some model ≡ asked_model r → file name ≡ Some bytes → length bytes ≤ most_table → slice ≡ bytes → products_outcome model slice ≡ Ok rows
-    → given_products r file ≡ Some (Ok rows)
-products_given r file name bytes slice model rows named under there fits same is =
-    let read : products_outcome model bytes ≡ Ok rows = subst (λ b. products_outcome model b ≡ Ok rows) same is in
-    rw (sym named, sym under) (given_table Products (products_outcome model) (file name) bytes (Ok rows) there fits read)
-
--- A limits file that is refused.
-pub limits_refused : (r : RequestData) (file : List ℕ → Option (List ℕ)) (rows : List RowData) (name bytes slice : List ℕ) (e : InputFault) (f : FileName) (row : ℕ) (code : Code)
-    → given_products r file ≡ Some (Ok rows) → Some name ≡ asked_limits r → file name ≡ Some bytes → length bytes ≤ most_table → slice ≡ bytes → e ≡ Fault f row code
-    → OnFault e (limits_outcome rows slice ≡ Err e) → IsAnswerTo r file (refusal 3 (fault_line f row code))
-limits_refused r file rows name bytes slice e f row code before named there fits same fault is =
-    let known : OnFault (Fault f row code) (limits_outcome rows slice ≡ Err (Fault f row code)) = subst (λ z. OnFault z (limits_outcome rows slice ≡ Err z)) fault is in
-    let read : limits_outcome rows bytes ≡ Err (Fault f row code) = subst (λ b. limits_outcome rows b ≡ Err (Fault f row code)) same known in
-    let given : given_limits r file rows ≡ Some (Err (Fault f row code)) = rw (sym named) (given_table Limits (limits_outcome rows) (file name) bytes (Err (Fault f row code)) there fits read) in
-    rw (before, given) refl
-
--- A limits file that is too large.
-pub limits_too_large : (r : RequestData) (file : List ℕ → Option (List ℕ)) (rows : List RowData) (name bytes : List ℕ)
-    → given_products r file ≡ Some (Ok rows) → Some name ≡ asked_limits r → file name ≡ Some bytes → most_table < length bytes
-    → IsAnswerTo r file (refusal 3 (fault_line Limits 0 TooLarge))
-limits_too_large r file rows name bytes before named there above =
-    let given : given_limits r file rows ≡ Some (Err (Fault Limits 0 TooLarge)) = rw (sym named, there, le_false (length bytes) most_table above) refl in
-    rw (before, given) refl
-
--- Why a limits file isn't loaded is why there is no report.
-pub limits_unloaded : (stop : Stop) (r : RequestData) (old new : StoreView) (rows : List RowData) (name : List ℕ)
-    → (IsTrue old.tells → given_products r old.file ≡ Some (Ok rows)) → Some name ≡ asked_limits r → WhyUnloaded Limits name most_table old new stop
-    → WhyStopped r old new stop
-limits_unloaded (Unread file) r old new rows name before named why = rw why.0 (record {
-  fails = (name, sym named, why.1);
-  before = λ told. (rows, before told);
-})
-limits_unloaded (Faulty file row code) r old new rows name before named why = λ told.
+-- Why the file of stage k isn't loaded is why there is no report.
+pub stage_unloaded : (stop : Stop) (k : ℕ) (s : Stage) (r : RequestData) (old new : StoreView) (i : InputsData) (name : List ℕ)
+    → slice_get (stages r) k ≡ Some s → s.name ≡ Some name → (IsTrue old.tells → GivesBefore k r old i)
+    → WhyUnloaded s.file name s.most old new stop → WhyStopped r old new stop
+stage_unloaded (Unread file) k s r old new i name at named before why = record {
+  k = k;
+  stage = s;
+  stage_is = at;
+  file_is = sym why.0;
+  fails = (name, named, why.1);
+  before = λ told. (i, before told);
+}
+stage_unloaded (Faulty file row code) k s r old new i name at named before why = λ told.
     let large = why.3 told in
-    rw (why.0, why.2) (limits_too_large r old.file rows name large.0 (before told) named large.1 large.2)
-limits_unloaded UnwrittenProof r old new rows name before named why = absurd why
-limits_unloaded NoMemory r old new rows name before named why = tt
+    rw (why.0, why.1, why.2) (faulty_answer r old.file s.file 0 _
+    (fault_given (stages r) k s no_inputs i (Fault s.file 0 _) old.file at (before told) (large_given s i old.file name large.0 named large.1 large.2)))
+stage_unloaded UnwrittenProof k s r old new i name at named before why = absurd why
+stage_unloaded NoMemory k s r old new i name at named before why = tt
 
--- A limits file that is read.
-pub limits_given : (r : RequestData) (file : List ℕ → Option (List ℕ)) (rows : List RowData) (name bytes slice : List ℕ) (limits : List Limit)
-    → Some name ≡ asked_limits r → file name ≡ Some bytes → length bytes ≤ most_table → slice ≡ bytes → limits_outcome rows slice ≡ Ok limits
-    → given_limits r file rows ≡ Some (Ok limits)
-limits_given r file rows name bytes slice limits named there fits same is =
-    let read : limits_outcome rows bytes ≡ Ok limits = subst (λ b. limits_outcome rows b ≡ Ok limits) same is in
-    rw (sym named) (given_table Limits (limits_outcome rows) (file name) bytes (Ok limits) there fits read)
+-- A fault of the bytes of stage k is why there is no report.
+pub stage_refused : (e : InputFault) (k : ℕ) (s : Stage) (r : RequestData) (old new : StoreView) (i : InputsData) (name bytes : List ℕ)
+    → slice_get (stages r) k ≡ Some s → s.name ≡ Some name → (IsTrue old.tells → GivesBefore k r old i)
+    → (IsTrue old.tells → old.file name ≡ Some bytes) → length bytes ≤ s.most → OnFault e (s.outcome i bytes ≡ Err e)
+    → WhyStopped r old new (stop_by e)
+stage_refused (Fault f row code) k s r old new i name bytes at named before there fits is = λ told.
+    faulty_answer r old.file f row code
+    (fault_given (stages r) k s no_inputs i (Fault f row code) old.file at (before told) (loaded_given s i old.file name bytes (Err (Fault f row code)) named (there told) fits is))
+stage_refused fault.NoMemory k s r old new i name bytes at named before there fits is = tt
 
--- What both files give.
-pub both_given : (r : RequestData) (file : List ℕ → Option (List ℕ)) (rows : List RowData) (limits : List Limit)
-    → given_products r file ≡ Some (Ok rows) → given_limits r file rows ≡ Some (Ok limits)
-    → judged r file ≡ Some (Ok (record { rows = rows; limits = limits }))
-both_given r file rows limits first second = rw (first, second) refl
+-- What a reader's answer is with what there was.
+pub part_faulty : {A : Type 0} (e : InputFault) (o : Result A InputFault) (put : A → InputsData) → OnFault e (o ≡ Err e) → OnFault e (with_part o put ≡ Err e)
+part_faulty (Fault f row code) o put is = rw is refl
+part_faulty fault.NoMemory o put is = tt
+
+pub part_given : {A : Type 0} (a : A) (o : Result A InputFault) (put : A → InputsData) → o ≡ Ok a → with_part o put ≡ Ok (put a)
+part_given a o put is = rw is refl
+
+-- What the products file gives, by the request's model and the file's bytes.
+pub products_faulty : (e : InputFault) (r : RequestData) (m : ModelName) (slice bytes : List ℕ) → m ≡ model_asked r → slice ≡ bytes
+    → OnFault e (products_outcome m slice ≡ Err e) → OnFault e (products_outcome (model_asked r) bytes ≡ Err e)
+products_faulty e r m slice bytes under same is =
+    subst (λ b. OnFault e (products_outcome (model_asked r) b ≡ Err e)) same (subst (λ n. OnFault e (products_outcome n slice ≡ Err e)) under is)
+
+pub products_given : (rows : List RowData) (r : RequestData) (m : ModelName) (slice bytes : List ℕ) → m ≡ model_asked r → slice ≡ bytes
+    → products_outcome m slice ≡ Ok rows → products_outcome (model_asked r) bytes ≡ Ok rows
+products_given rows r m slice bytes under same is =
+    subst (λ b. products_outcome (model_asked r) b ≡ Ok rows) same (subst (λ n. products_outcome n slice ≡ Ok rows) under is)
+
+-- What the segments file gives, by the request's unit and the file's bytes.
+pub segments_faulty : (e : InputFault) (r : RequestData) (rows : List RowData) (unit : ℕ) (slice bytes : List ℕ) → unit ≡ unit_of r → slice ≡ bytes
+    → OnFault e (segments_outcome rows unit slice ≡ Err e) → OnFault e (segments_outcome rows (unit_of r) bytes ≡ Err e)
+segments_faulty e r rows unit slice bytes under same is =
+    subst (λ b. OnFault e (segments_outcome rows (unit_of r) b ≡ Err e)) same (subst (λ n. OnFault e (segments_outcome rows n slice ≡ Err e)) under is)
+
+pub segments_given : (segments : List NamedSegment) (r : RequestData) (rows : List RowData) (unit : ℕ) (slice bytes : List ℕ) → unit ≡ unit_of r → slice ≡ bytes
+    → segments_outcome rows unit slice ≡ Ok segments → segments_outcome rows (unit_of r) bytes ≡ Ok segments
+segments_given segments r rows unit slice bytes under same is =
+    subst (λ b. segments_outcome rows (unit_of r) b ≡ Ok segments) same (subst (λ n. segments_outcome rows n slice ≡ Ok segments) under is)
+
+-- What the first stages give, with what stage k gives.
+pub stage_read : (k : ℕ) (s : Stage) (r : RequestData) (old : StoreView) (i j : InputsData) (name bytes : List ℕ)
+    → slice_get (stages r) k ≡ Some s → s.name ≡ Some name → GivesBefore k r old i
+    → old.file name ≡ Some bytes → length bytes ≤ s.most → s.outcome i bytes ≡ Ok j
+    → GivesBefore (suc k) r old j
+stage_read k s r old i j name bytes at named before there fits is =
+    next_given (stages r) k s no_inputs i j old.file at before (loaded_given s i old.file name bytes (Ok j) named there fits is)
+
+-- A stage whose file isn't asked for gives no more.
+pub stage_unasked : (k : ℕ) (s : Stage) (r : RequestData) (old : StoreView) (i : InputsData) → slice_get (stages r) k ≡ Some s → s.name ≡ None
+    → GivesBefore k r old i → GivesBefore (suc k) r old i
+stage_unasked k s r old i at none before = next_given (stages r) k s no_inputs i i old.file at before (unasked_given s i old.file none)
 
 -- A call that only opens and reads changes no file.
 pub files_stand : (old new : StoreView) → Passes old new → FilesStand old new
@@ -110,45 +111,50 @@ files_stand old new passes = λ told other. ap (λ (f : List ℕ → _). f other
 pub rose_later : (before mid now : ℕ) → before ≤ mid → Rose mid now → Rose before now
 rose_later before mid now later rose = omega arith
 
-same_files : (old mid : StoreView) → Passes old mid → IsTrue old.tells → mid.file ≡ old.file
+pub same_files : (old mid : StoreView) → Passes old mid → IsTrue old.tells → mid.file ≡ old.file
 same_files old mid passes told = (passes.files told).file
 
-pub later_read : (name : List ℕ) (old mid new : StoreView) → Passes old mid → CannotRead name mid new → CannotRead name old new
+later_read : (name : List ℕ) (old mid new : StoreView) → Passes old mid → CannotRead name mid new → CannotRead name old new
 later_read name old mid new passes why = record {
   cause = rose_later old.faults mid.faults new.faults passes.later why.cause;
   unheld = λ steady. subst (λ held. Contains held name → ⊥) passes.stays.held (why.unheld (rw passes.stays.steady steady));
   kept = λ told other. why.kept (rw passes.stays.tells told) other ∙ files_stand old mid passes told other;
 }
 
-later_file : (file : FileName) (r : RequestData) (old mid new : StoreView) → Passes old mid → CannotReadFile r file mid new → CannotReadFile r file old new
-later_file Products r old mid new passes why = later_read (products_name r) old mid new passes why
-later_file Limits r old mid new passes why = record {
+-- What files give before a call that only reads, they give after it, and the other way round.
+pub gives_later : (k : ℕ) (r : RequestData) (old mid : StoreView) (i : InputsData) → Passes old mid → (IsTrue old.tells → GivesBefore k r old i)
+    → IsTrue mid.tells → GivesBefore k r mid i
+gives_later k r old mid i passes before told =
+    let told' : IsTrue old.tells = rw passes.stays.tells at told in
+    subst (λ (file : Files). given_by (take k (stages r)) no_inputs file ≡ Some (Ok i)) (sym (same_files old mid passes told')) (before told')
+
+pub gives_earlier : (k : ℕ) (r : RequestData) (old mid : StoreView) (i : InputsData) → Passes old mid → (IsTrue mid.tells → GivesBefore k r mid i)
+    → IsTrue old.tells → GivesBefore k r old i
+gives_earlier k r old mid i passes after told =
+    subst (λ (file : Files). given_by (take k (stages r)) no_inputs file ≡ Some (Ok i)) (same_files old mid passes told) (after (rw passes.stays.tells told))
+
+pub later_stop : (stop : Stop) (r : RequestData) (old mid new : StoreView) → Passes old mid → WhyStopped r mid new stop → WhyStopped r old new stop
+later_stop (Unread file) r old mid new passes why = record {
+  k = why.k;
+  stage = why.stage;
+  stage_is = why.stage_is;
+  file_is = why.file_is;
   fails = (why.fails.0, why.fails.1, later_read why.fails.0 old mid new passes why.fails.2);
   before = λ told.
       let there = why.before (rw passes.stays.tells told) in
-      (there.0, subst (λ (file : List ℕ → Option (List ℕ)). given_products r file ≡ Some (Ok there.0)) (same_files old mid passes told) there.1);
+      (there.0, subst (λ (file : Files). given_by (take why.k (stages r)) no_inputs file ≡ Some (Ok there.0)) (same_files old mid passes told) there.1);
 }
-later_file Proof r old mid new passes why = record {
-  asked = why.asked;
-  fails = later_read (proof_name r) old mid new passes why.fails;
-  before = λ told.
-      let there = why.before (rw passes.stays.tells told) in
-      (there.0, subst (λ (file : List ℕ → Option (List ℕ)). judged r file ≡ Some (Ok there.0)) (same_files old mid passes told) there.1);
-}
-later_file Segments r old mid new passes why = absurd why
-later_file Arcs r old mid new passes why = absurd why
-later_file Offer r old mid new passes why = absurd why
-
-pub later_stop : (stop : Stop) (r : RequestData) (old mid new : StoreView) → Passes old mid → WhyStopped r mid new stop → WhyStopped r old new stop
-later_stop (Unread file) r old mid new passes why = later_file file r old mid new passes why
 later_stop (Faulty file row code) r old mid new passes why = λ told.
-    subst (λ (files : List ℕ → Option (List ℕ)). IsAnswerTo r files (refusal 3 (fault_line file row code))) (same_files old mid passes told) (why (rw passes.stays.tells told))
-later_stop UnwrittenProof r old mid new passes why = record {
-  asked = why.asked;
-  cause = rose_later old.faults mid.faults new.faults passes.later why.cause;
-  unsteady = λ steady. why.unsteady (rw passes.stays.steady steady);
-  before = λ told.
-      let there = why.before (rw passes.stays.tells told) in
-      (there.0, subst (λ (file : List ℕ → Option (List ℕ)). IsAnswerTo r file (answer 0 there.0)) (same_files old mid passes told) there.1);
-}
+    subst (λ (files : Files). IsAnswerTo r files (refusal 3 (fault_line file row code))) (same_files old mid passes told) (why (rw passes.stays.tells told))
+later_stop UnwrittenProof r old mid new passes why = (
+  record {
+    asked = why.0.asked;
+    cause = rose_later old.faults mid.faults new.faults passes.later why.0.cause;
+    unsteady = λ steady. why.0.unsteady (rw passes.stays.steady steady);
+    before = λ told.
+        let there = why.0.before (rw passes.stays.tells told) in
+        (there.0, subst (λ (file : Files). IsAnswerTo r file (answer 0 there.0)) (same_files old mid passes told) there.1);
+  },
+  why.1,
+)
 later_stop NoMemory r old mid new passes why = tt

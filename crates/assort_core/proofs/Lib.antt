@@ -1,5 +1,8 @@
-pub mod ProofFileLemmas
+pub mod OutputFileLemmas
+pub mod TaskLemmas
+pub mod StageLemmas
 pub mod InputLemmas
+pub mod CertificateLemmas
 pub mod SolveLemmas
-pub mod AnswerLemmas
+pub mod CheckLemmas
 pub mod RunLemmas

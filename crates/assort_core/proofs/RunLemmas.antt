@@ -1,24 +1,27 @@
 -- What a run does, from what its parts do.
-use Rattle.std.proofs.Common.{◌≡◌, ◌∙◌, sym, refl, ap, arith, ℕ, ◌≤◌, ◌<◌, List, [], ◌++◌, length, Option, Some, None, Result, Ok, Err, IsTrue, inl, inr}
+use Rattle.std.proofs.Common.{◌≡◌, ◌∙◌, sym, refl, ap, arith, ℕ, ◌<◌, List, [], ◌++◌, length, Some, None, Result, Ok, Err, IsTrue, inl, inr}
 use Rattle.std.proofs.lemmas.List.{append-nil, take_all}
+use Rattle.offer_model.specs.declared.products.ModelName.{ModelName}
+use Rattle.offer_model.specs.declared.products.ModelName.TheVariants.{Logit, Attract, Mixed, Chain}
 use Rattle.offer_io.specs.Causes.{Rose}
 use Rattle.offer_io.specs.Stores.{StoreView}
 use Rattle.offer_io.specs.Sinks.{SinkView, Writes}
-use Rattle.catalogue.specs.declared.faults.FileName.{FileName}
-use Rattle.catalogue.specs.declared.faults.FileName.TheVariants.{Products, Limits, Segments, Arcs, Proof, Offer}
 use Rattle.catalogue.specs.declared.faults.InputFault.TheVariants.{Fault}
 use Rattle.catalogue.specs.declared.faults.InputFault.TheVariants as fault
 use Rattle.proof_lines.proofs.AcceptedIsBest.{accepted_is_best}
-use Rattle.assort_core.specs.declared.stops.Stop.{Stop}
-use Rattle.assort_core.specs.declared.stops.Stop.TheVariants.{Unread, Faulty, UnwrittenProof, NoMemory}
+use Rattle.assort_core.specs.declared.stop.Stop.{Stop}
+use Rattle.assort_core.specs.declared.stop.Stop.TheVariants.{Unread, Faulty, UnwrittenProof, NoMemory}
 use Rattle.assort_words.specs.declared.usage.Command.{Command}
 use Rattle.assort_words.specs.declared.usage.Command.TheVariants.{Solve, Check}
 use Rattle.assort_words.specs.declared.usage.UsageFault.{UsageFault}
 use Rattle.assort_words.specs.Asked.{RequestData, asked_of}
 use Rattle.assort_core.specs.Lines.{usage_line, unwritten_line}
-use Rattle.assort_core.specs.Judged.{Given, InputsData, judged, asked_problem, proof_name}
-use Rattle.assort_core.specs.Outcomes.{Outcome, IsOutcome, IsAnswerTo, IsAnswerFrom, IsDone, IsVerdictOf, IsVerdict, answer, refusal, most_proof}
-use Rattle.assort_core.specs.Runs.{Says, Prints, FailsToPrint, Performs, CannotReadFile, StoreFails, OutFails, Gives, IsAnswerable, HoldsInputs, ClaimHolds, ProofStands, ProofIsSealed, ProofMayStand}
+use Rattle.assort_core.specs.Stages.{InputsData, model_asked, asked_problem}
+use Rattle.assort_core.specs.Certificates.{certificate_under}
+use Rattle.assort_core.specs.Judged.{Files, Given, judged}
+use Rattle.assort_core.specs.Deeds.{Outcome, answer, refusal}
+use Rattle.assort_core.specs.Outcomes.{IsOutcome, IsAnswerTo, IsAnswerFrom, deed_of}
+use Rattle.assort_core.specs.Runs.{Says, Prints, FailsToPrint, Performs, StoreFails, OutFails, IsAnswerable, HoldsInputs, ClaimHolds, OutputStands, OutputIsSealed, OutputMayStand}
 use Rattle.assort_core.specs.Stops.{WhyStopped, status_of, stop_line}
 
 -- a write says a line
@@ -48,7 +51,7 @@ prints_nothing : (view : SinkView) → Prints view [] view
 prints_nothing view = record { whole = λ told. sym (append-nil view.bytes); later = omega arith; tells = refl }
 
 -- words that are refused
-refused_outcome : (words : List (List ℕ)) (file : List ℕ → Option (List ℕ)) (fault : UsageFault) → asked_of words ≡ Err fault
+refused_outcome : (words : List (List ℕ)) (file : Files) (fault : UsageFault) → asked_of words ≡ Err fault
     → IsOutcome words file (refusal 2 (usage_line fault))
 refused_outcome words file fault asked = rw asked refl
 
@@ -63,7 +66,7 @@ performs_refusal words store fault out err err' asked says = record {
 }
 
 -- a request's outcome is its answer
-pub asked_outcome : (words : List (List ℕ)) (file : List ℕ → Option (List ℕ)) (r : RequestData) (o : Outcome) → asked_of words ≡ Ok r
+pub asked_outcome : (words : List (List ℕ)) (file : Files) (r : RequestData) (o : Outcome) → asked_of words ≡ Ok r
     → IsAnswerTo r file o → IsOutcome words file o
 asked_outcome words file r o asked answers = rw asked answers
 
@@ -95,98 +98,74 @@ performs_stop UnwrittenProof words store store' r out err err' asked small told 
 performs_stop NoMemory words store store' r out err err' asked small told why says = absurd (omega arith)
 performs_stop (Faulty file row code) words store store' r out err err' asked small told why says = stopped_three words store r _ out err err' asked (why told) says
 
--- a file that can't be read
-file_rose : (file : FileName) (r : RequestData) (store store' : StoreView) → CannotReadFile r file store store' → Rose store.faults store'.faults
-file_rose Products r store store' why = why.cause
-file_rose Proof r store store' why = why.fails.cause
-file_rose Limits r store store' why = why.fails.2.cause
-file_rose Segments r store store' why = absurd why
-file_rose Arcs r store store' why = absurd why
-file_rose Offer r store store' why = absurd why
-
-file_held : (file : FileName) (r : RequestData) (store store' : StoreView) → CannotReadFile r file store store' → IsTrue store.steady → HoldsInputs r store → ⊥
-file_held Products r store store' why steady holds = why.unheld steady holds.0
-file_held Proof r store store' why steady holds = why.fails.unheld steady (holds.2 why.asked)
-file_held Limits r store store' why steady holds = why.fails.2.unheld steady (holds.1 why.fails.0 why.fails.1)
-file_held Segments r store store' why steady holds = absurd why
-file_held Arcs r store store' why steady holds = absurd why
-file_held Offer r store store' why steady holds = absurd why
-
 -- why a store's failure ends a run
 pub store_fails : (stop : Stop) (r : RequestData) (store store' : StoreView) (out err err' : SinkView) → status_of stop ≡ 4
-    → WhyStopped r store store' stop → ProofMayStand r store store' → Says err (stop_line stop) err' → StoreFails r store store' out out err err'
+    → WhyStopped r store store' stop → OutputMayStand r store store' → Says err (stop_line stop) err' → StoreFails r store store' out out err err'
 store_fails (Unread file) r store store' out err err' four why may says = record { why = inl (file, why, says); proof = may; silent = refl }
-store_fails UnwrittenProof r store store' out err err' four why may says = record { why = inr (why, says); proof = may; silent = refl }
+store_fails UnwrittenProof r store store' out err err' four why may says = record { why = inr (why.0, rw why.1 says); proof = may; silent = refl }
 store_fails (Faulty file row code) r store store' out err err' four why may says = absurd (omega arith)
 store_fails NoMemory r store store' out err err' four why may says = absurd (omega arith)
 
 -- a steady store that holds the inputs ends none
 pub steady_store : (stop : Stop) (r : RequestData) (store store' : StoreView) → status_of stop ≡ 4 → WhyStopped r store store' stop
     → IsTrue store.steady → HoldsInputs r store → ⊥
-steady_store (Unread file) r store store' four why steady holds = file_held file r store store' why steady holds
-steady_store UnwrittenProof r store store' four why steady holds = why.unsteady steady
+steady_store (Unread file) r store store' four why steady holds =
+    why.fails.2.unheld steady (holds why.k why.stage why.fails.0 why.stage_is why.fails.1)
+steady_store UnwrittenProof r store store' four why steady holds = why.0.unsteady steady
 steady_store (Faulty file row code) r store store' four why steady holds = absurd (omega arith)
 steady_store NoMemory r store store' four why steady holds = absurd (omega arith)
 
 -- the cause of a store's failure
 pub store_rose : (stop : Stop) (r : RequestData) (store store' : StoreView) → status_of stop ≡ 4 → WhyStopped r store store' stop
     → Rose store.faults store'.faults
-store_rose (Unread file) r store store' four why = file_rose file r store store' why
-store_rose UnwrittenProof r store store' four why = why.cause
+store_rose (Unread file) r store store' four why = why.fails.2.cause
+store_rose UnwrittenProof r store store' four why = why.0.cause
 store_rose (Faulty file row code) r store store' four why = absurd (omega arith)
 store_rose NoMemory r store store' four why = absurd (omega arith)
 
 -- an answerable request isn't refused
-done_below_two : (c : Command) (r : RequestData) (store : StoreView) (i : InputsData) (o : Outcome) → r.command ≡ c → IsAnswerable r store
-    → IsDone c r i store.file o → o.status < 2
-done_below_two Solve r store i o is can done = rw done.2 (omega arith)
-done_below_two Check r store i o is can done =
-    let proof = can.proof is in
-    judged_text proof.0 proof.2 (rw proof.1 at done)
-  where
-    judged_text : (text : List ℕ) → length text ≤ most_proof → IsVerdict (asked_problem r i) text o → o.status < 2
-    judged_text text fits (inl h) = absurd (omega (arith, fits, h.0))
-    judged_text text fits (inr (inl h)) = rw h.2 (omega arith)
-    judged_text text fits (inr (inr h)) = rw h.2 (omega arith)
+done_below_two : (c : Command) (r : RequestData) (i : InputsData) (o : Outcome) → (deed_of c r).IsDone i o → o.status < 2
+done_below_two Solve r i o done = rw done.2 (omega arith)
+done_below_two Check r i o (inl h) = rw h.1 (omega arith)
+done_below_two Check r i o (inr h) = rw h.1 (omega arith)
 
 pub answer_below_two : (r : RequestData) (store : StoreView) (o : Outcome) → IsAnswerable r store → IsAnswerTo r store.file o → o.status < 2
-answer_below_two r store o can answers = done_below_two r.command r store can.given.0 o refl can (rw can.given.1 at answers)
+answer_below_two r store o can answers = done_below_two r.command r can.given.0 o (rw can.given.1 at answers)
 
 pub stopped_five : (stop : Stop) (r : RequestData) (store store' : StoreView) → WhyStopped r store store' stop → IsAnswerable r store
     → (Rose store.faults store'.faults → ⊥) → status_of stop ≡ 5
-stopped_five (Unread file) r store store' why can calm = absurd (calm (file_rose file r store store' why))
-stopped_five UnwrittenProof r store store' why can calm = absurd (calm why.cause)
+stopped_five (Unread file) r store store' why can calm = absurd (calm why.fails.2.cause)
+stopped_five UnwrittenProof r store store' why can calm = absurd (calm why.0.cause)
 stopped_five (Faulty file row code) r store store' why can calm = absurd (omega (arith, answer_below_two r store (refusal 3 _) can (why can.tells)))
 stopped_five NoMemory r store store' why can calm = refl
 
--- 0 of `check`
-done_claims : (c : Command) (r : RequestData) (store : StoreView) (i : InputsData) (report : List ℕ) → c ≡ Check
-    → Gives r store i → IsDone c r i store.file (answer 0 report) → ClaimHolds r store
-done_claims Solve r store i report is there done = cc
-done_claims Check r store i report is there done = by_file (store.file (proof_name r)) refl done
-  where
-    by_text : (text : List ℕ) → store.file (proof_name r) ≡ Some text → IsVerdict (asked_problem r i) text (answer 0 report) → ClaimHolds r store
-    by_text text e (inl h) = let n : 0 ≡ 3 = ap (λ (o : Outcome). o.status) h.1 in absurd (omega (arith, n))
-    by_text text e (inr (inl h)) = (i, there, (text, e, (h.1.0, h.1.1, h.1.2, accepted_is_best (asked_problem r i) text h.1.0 h.1.1 h.1.2)))
-    by_text text e (inr (inr h)) = let n : 0 ≡ 1 = ap (λ (o : Outcome). o.status) h.2 in absurd (omega (arith, n))
+-- What an accepted certificate claims is so.
+claimed : (m : ModelName) (r : RequestData) (i : InputsData) (text : List ℕ) → (certificate_under m r i).Accepted text
+    → (certificate_under m r i).Claimed text
+claimed Logit r i text h = (h.0, h.1, h.2, accepted_is_best (asked_problem r i) text h.0 h.1 h.2)
+claimed Attract r i text h = (h.0, h.1, h.2, accepted_is_best (asked_problem r i) text h.0 h.1 h.2)
+claimed Mixed r i text h = (h.0, h.1, h.2, accepted_is_best (asked_problem r i) text h.0 h.1 h.2)
+claimed Chain r i text h = absurd h
 
-    by_file : (file : Option (List ℕ)) → store.file (proof_name r) ≡ file → IsVerdictOf (asked_problem r i) file (answer 0 report) → ClaimHolds r store
-    by_file None e done = absurd done
-    by_file (Some text) e done = by_text text e done
+-- 0 of a command
+done_claims : (c : Command) (r : RequestData) (i : InputsData) (report : List ℕ) → (deed_of c r).IsDone i (answer 0 report) → (deed_of c r).IsClaimed i
+done_claims Solve r i report done = tt
+done_claims Check r i report (inl h) = claimed (model_asked r) r i i.proof h.0
+done_claims Check r i report (inr h) = let n : 0 ≡ 1 = ap (λ (o : Outcome). o.status) h.1 in absurd (omega (arith, n))
 
-pub claim_holds : (r : RequestData) (store : StoreView) (report : List ℕ) → r.command ≡ Check → IsAnswerTo r store.file (answer 0 report) → ClaimHolds r store
-claim_holds r store report check answers = by_given (judged r store.file) refl answers
+pub claim_holds : (r : RequestData) (store : StoreView) (report : List ℕ) → IsAnswerTo r store.file (answer 0 report) → ClaimHolds r store
+claim_holds r store report answers = by_given (judged r store.file) refl answers
   where
-    by_given : (given : Given InputsData) → judged r store.file ≡ given → IsAnswerFrom r given store.file (answer 0 report) → ClaimHolds r store
+    by_given : (given : Given) → judged r store.file ≡ given → IsAnswerFrom r given (answer 0 report) → ClaimHolds r store
     by_given None e answers = absurd answers
     by_given (Some (Err (Fault file row code))) e answers = let n : 0 ≡ 3 = ap (λ (o : Outcome). o.status) answers in absurd (omega (arith, n))
     by_given (Some (Err fault.NoMemory)) e answers = absurd answers
-    by_given (Some (Ok i)) e answers = done_claims r.command r store i report check e answers
+    by_given (Some (Ok i)) e answers = (i, e, done_claims r.command r i report answers)
 
 -- a report that can't be printed
 pub out_fails : (words : List (List ℕ)) (store store' : StoreView) (r : RequestData) (status : ℕ) (report : List ℕ) (out out' err err' : SinkView) → asked_of words ≡ Ok r
     → (IsTrue store.tells → IsAnswerTo r store.file (answer status report)) → FailsToPrint out report out' → Says err unwritten_line err'
-    → ProofStands r store store' → ProofIsSealed r store' → OutFails words r store store' out out' err err'
+    → OutputStands r store store' → OutputIsSealed r store' → OutFails words r store store' out out' err err'
 out_fails words store store' r status report out out' err err' asked answers fails says proof sealed = record {
   status = status;
   report = report;

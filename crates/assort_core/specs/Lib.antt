@@ -1,6 +1,11 @@
 pub mod Lines
+pub mod Stages
 pub mod Judged
+pub mod Certificates
+pub mod Deeds
+pub mod SolveOutcomes
+pub mod CheckOutcomes
 pub mod Outcomes
 pub mod Runs
 pub mod Stops
-pub mod ProofFiles
+pub mod OutputFiles

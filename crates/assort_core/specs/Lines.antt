@@ -10,6 +10,7 @@ use Rattle.catalogue.specs.declared.faults.Code.{Code}
 use Rattle.catalogue.specs.declared.faults.Code.TheVariants.{BadName, BadNumber, OutOfRange, RepeatedName, UnknownName, UnknownKind, RepeatedLimit, ShadowAbove, TooManyProducts, TooManyLines, SizesTooGreat, NoArrivals, NoLeaving, UnknownColumn, RepeatedColumn, MissingColumn, FieldCount, TooLarge, WrongLength}
 use Rattle.catalogue.specs.ProductTables.{product_columns}
 use Rattle.catalogue.specs.LimitTables.{limit_columns}
+use Rattle.catalogue.specs.SegmentTables.{segment_columns}
 
 -- What is wrong with the words, without the place.
 abbrev pub cause_text : UsageCode → List ℕ
@@ -54,7 +55,7 @@ file_text Offer = codes "offer"
 abbrev pub column_text : FileName → ℕ → List ℕ
 column_text Products c = slice_index_or product_columns c []
 column_text Limits c = slice_index_or limit_columns c []
-column_text Segments c = []
+column_text Segments c = slice_index_or segment_columns c []
 column_text Arcs c = []
 column_text ProofFile c = []
 column_text Offer c = []

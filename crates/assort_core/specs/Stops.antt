@@ -2,13 +2,17 @@
 use Rattle.std.specs.Prelude.{◌≡◌, ℕ, ◌<◌, List, length, Some, IsTrue}
 use Rattle.catalogue.specs.declared.faults.Code.TheVariants.{TooLarge}
 use Rattle.catalogue.specs.declared.faults.FileName.{FileName}
+use Rattle.catalogue.specs.declared.faults.InputFault.{InputFault}
+use Rattle.catalogue.specs.declared.faults.InputFault.TheVariants.{Fault}
+use Rattle.catalogue.specs.declared.faults.InputFault.TheVariants as fault
 use Rattle.offer_io.specs.Stores.{StoreView}
 use Rattle.assort_words.specs.Asked.{RequestData}
-use Rattle.assort_core.specs.declared.stops.Stop.{Stop}
-use Rattle.assort_core.specs.declared.stops.Stop.TheVariants.{Unread, Faulty, UnwrittenProof, NoMemory}
+use Rattle.assort_core.specs.declared.stop.Stop.{Stop}
+use Rattle.assort_core.specs.declared.stop.Stop.TheVariants.{Unread, Faulty, UnwrittenProof, NoMemory}
 use Rattle.assort_core.specs.Lines.{fault_line, unread_line, unwritten_proof_line, memory_line}
-use Rattle.assort_core.specs.Outcomes.{IsAnswerTo, refusal}
-use Rattle.assort_core.specs.Runs.{CannotRead, CannotReadFile, CannotWriteProof}
+use Rattle.assort_core.specs.Deeds.{refusal}
+use Rattle.assort_core.specs.Outcomes.{IsAnswerTo, output_of}
+use Rattle.assort_core.specs.Runs.{CannotRead, CannotReadFile, CannotWrite}
 
 abbrev pub status_of : Stop → ℕ
 status_of (Unread file) = 4
@@ -22,12 +26,17 @@ stop_line (Faulty file row code) = fault_line file row code
 stop_line UnwrittenProof = unwritten_proof_line
 stop_line NoMemory = memory_line
 
+-- Why a run stops at a fault of a file.
+abbrev pub stop_by : InputFault → Stop
+stop_by (Fault file row code) = Faulty file row code
+stop_by fault.NoMemory = NoMemory
+
 -- Each reason to stop has its cause. Want of memory is free.
 abbrev pub WhyStopped : RequestData → StoreView → StoreView → Stop → Type 0
 WhyStopped r store store' (Unread file) = CannotReadFile r file store store'
 WhyStopped r store store' (Faulty file row code) =
     IsTrue store.tells → IsAnswerTo r store.file (refusal 3 (fault_line file row code))
-WhyStopped r store store' UnwrittenProof = CannotWriteProof r store store'
+WhyStopped r store store' UnwrittenProof = CannotWrite r store store' × ((output_of r).line ≡ unwritten_proof_line)
 WhyStopped r store store' NoMemory = Unit {0}
 
 -- Why a file isn't loaded. Want of memory is free.

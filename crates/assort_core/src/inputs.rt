@@ -1,35 +1,36 @@
 //! The files of a request, loaded and judged one after the other.
-ghost use Rattle.std.specs.Prelude.{◌≡◌, ◌≤◌, ℕ, Some, Ok, IfOk, IfErr, IsTrue, length, unwrap_or};
+ghost use Rattle.std.specs.Prelude.{◌≡◌, ◌≢◌, ◌≤◌, ℕ, List, [], Some, IfOk, IfErr, IsTrue, length};
 ghost use Rattle.offer_model.specs.declared.products.ModelName.{ModelName};
 ghost use Rattle.offer_model.specs.declared.products.ModelName.TheVariants as model;
 ghost use Rattle.offer_model.specs.Validity.{HasLimits};
 ghost use Rattle.offer_io.specs.Stores.{Passes};
-ghost use Rattle.catalogue.specs.CatalogueProblems.{KeepsShadows, problem_data_of};
-ghost use Rattle.assort_words.specs.Asked.{IsComplete, asked_model};
-ghost use Rattle.assort_core.specs.Judged.{asked_problem, given_products, given_limits};
-ghost use Rattle.assort_core.specs.Runs.{Gives};
+ghost use Rattle.catalogue.specs.CatalogueProblems.{KeepsShadows, FitSegments, problem_data_of};
+ghost use Rattle.catalogue.specs.SegmentTables.{NamedSegment};
+ghost use Rattle.assort_core.specs.Stages.{no_inputs, table_count, model_asked, unit_of, asked_problem};
+ghost use Rattle.assort_core.specs.Judged.{GivesBefore};
 ghost use Rattle.assort_core.specs.Stops.{WhyStopped, WhyUnloaded};
 
-use crate::stops::Stop;
-use assort_words::Request;
+use crate::stop::Stop;
+use crate::task::Task;
 use catalogue::{
-    Catalogue, Code, FileName, InputFault, MOST_TABLE, SegmentTable, problem_of, read_limits,
-    read_products,
+    Catalogue, Code, FileName, MOST_TABLE, SegmentTable, problem_of, read_limits, read_products,
+    read_segments,
 };
 use offer_io::{LoadFault, Store, load};
 use offer_model::{Bytes, Limits, NoMemory, Problem};
 use std::alloc::Global;
 
-/// What the files of a request give.
+/// What the tables of a request give.
 #[derive(Drop)]
 pub(crate) struct Inputs {
     pub(crate) catalogue: Catalogue,
+    pub(crate) segments: SegmentTable,
     pub(crate) problem: Problem,
 }
 
-/// The bytes of a file that isn't above its limit.
+/// The bytes of an input that isn't above its limit. Every input of every command is read by this call.
 #[tactic(auto, using(crate::proofs::InputLemmas::files_stand))]
-pub(crate) fn load_file<S: Store>(
+pub(crate) fn load_input<S: Store>(
     alloc: Global,
     store: &mut S,
     file: FileName,
@@ -52,104 +53,129 @@ pub(crate) fn load_file<S: Store>(
 /// The catalogue of the products file.
 fn read_catalogue<S: Store>(
     alloc: Global,
-    request: &Request<'_>,
+    task: &Task<'_>,
     store: &mut S,
 ) -> Result<Catalogue, Stop>
-    requires { IsComplete request.now }
     ensures passes { Passes (S.view store.old) (S.view store.new) }
-    ensures rows { IfOk result (λ c. IsTrue (S.view store.old).tells
-        → given_products request.now (S.view store.old).file ≡ Some (Ok c)) }
-    ensures shadows { IfOk result (λ c. unwrap_or (asked_model request.now) model.Logit ≡ model.Attract → KeepsShadows c) }
-    ensures stopped { IfErr result (WhyStopped request.now (S.view store.old) (S.view store.new)) }
+    ensures given { IfOk result (λ c. IsTrue (S.view store.old).tells
+        → GivesBefore 1 task.now (S.view store.old) (record no_inputs { rows = c })) }
+    ensures shadows { IfOk result (λ c. model_asked task.now ≡ model.Attract → KeepsShadows c) }
+    ensures stopped { IfErr result (WhyStopped task.now (S.view store.old) (S.view store.new)) }
 {
-    let Some(name) = request.products() else {
-        unreachable!();
-    };
-    let Some(model) = request.model() else {
-        unreachable!();
-    };
-    let bytes = match load_file(alloc, store, FileName::Products, name, MOST_TABLE) {
+    let name = task.products();
+    let bytes = match load_input(alloc, store, FileName::Products, name, MOST_TABLE) {
         Err(stop) => return Err(stop),
         Ok(bytes) => bytes,
     };
-    match read_products(alloc, bytes.as_slice(), model) {
-        Ok(catalogue) => Ok(catalogue),
-        Err(InputFault::Fault { file, row, code }) => Err(Stop::Faulty(file, row, code)),
-        Err(InputFault::NoMemory) => Err(Stop::NoMemory),
-    }
+    Ok(read_products(alloc, bytes.as_slice(), task.model())?)
 }
 
 /// The limits of the limits file, or none where there is no such file.
 fn read_request_limits<S: Store>(
     alloc: Global,
-    request: &Request<'_>,
+    task: &Task<'_>,
     store: &mut S,
     c: &Catalogue,
 ) -> Result<Limits, Stop>
-    requires before { IsTrue (S.view store.old).tells → given_products request.now (S.view store.old).file ≡ Some (Ok c.now) }
+    requires before { IsTrue (S.view store.old).tells
+        → GivesBefore 1 task.now (S.view store.old) (record no_inputs { rows = c.now }) }
     ensures passes { Passes (S.view store.old) (S.view store.new) }
-    ensures limits { IfOk result (λ limits. IsTrue (S.view store.old).tells
-        → given_limits request.now (S.view store.old).file c.now ≡ Some (Ok limits.items)) }
-    ensures fit { IfOk result (λ limits. (model : ModelName) (none unit : ℕ) → HasLimits (problem_data_of c.now model none unit limits.items)) }
-    ensures stopped { IfErr result (WhyStopped request.now (S.view store.old) (S.view store.new)) }
+    ensures given { IfOk result (λ limits. IsTrue (S.view store.old).tells
+        → GivesBefore 2 task.now (S.view store.old) (record no_inputs { rows = c.now; limits = limits.items })) }
+    ensures fit { IfOk result (λ limits. (model : ModelName) (none unit : ℕ) (segments : List NamedSegment)
+        → HasLimits (problem_data_of c.now model none unit segments limits.items)) }
+    ensures stopped { IfErr result (WhyStopped task.now (S.view store.old) (S.view store.new)) }
 {
-    let Some(name) = request.limits() else {
+    let Some(name) = task.limits() else {
         return Ok(Limits::new(alloc));
     };
-    let bytes = match load_file(alloc, store, FileName::Limits, name, MOST_TABLE) {
+    let bytes = match load_input(alloc, store, FileName::Limits, name, MOST_TABLE) {
         Err(stop) => return Err(stop),
         Ok(bytes) => bytes,
     };
-    match read_limits(alloc, bytes.as_slice(), c) {
-        Ok(limits) => Ok(limits),
-        Err(InputFault::Fault { file, row, code }) => Err(Stop::Faulty(file, row, code)),
-        Err(InputFault::NoMemory) => Err(Stop::NoMemory),
-    }
+    Ok(read_limits(alloc, bytes.as_slice(), c)?)
 }
 
-/// The problem of a catalogue and limits.
-fn problem_asked(
+/// The segments of the segments file, or none where there is no such file.
+fn read_request_segments<S: Store>(
     alloc: Global,
-    request: &Request<'_>,
+    task: &Task<'_>,
+    store: &mut S,
     c: &Catalogue,
     limits: &Limits,
-) -> Result<Problem, NoMemory>
-    requires complete { IsComplete request.now }
-    requires shadows { unwrap_or (asked_model request.now) model.Logit ≡ model.Attract → KeepsShadows c.now }
-    requires limits { (model : ModelName) (none unit : ℕ) → HasLimits (problem_data_of c.now model none unit limits.now.items) }
-    ensures { IfOk result (λ p. p ≡ asked_problem request.now (record { rows = c.now; limits = limits.now.items })) }
+) -> Result<SegmentTable, Stop>
+    requires before { IsTrue (S.view store.old).tells
+        → GivesBefore 2 task.now (S.view store.old) (record no_inputs { rows = c.now; limits = limits.now.items }) }
+    ensures passes { Passes (S.view store.old) (S.view store.new) }
+    ensures given { IfOk result (λ segments. IsTrue (S.view store.old).tells
+        → GivesBefore 3 task.now (S.view store.old) (record no_inputs { rows = c.now; limits = limits.now.items; segments = segments })) }
+    ensures fit { IfOk result (λ segments. model_asked task.now ≡ model.Mixed → FitSegments c.now (unit_of task.now) segments) }
+    ensures stopped { IfErr result (WhyStopped task.now (S.view store.old) (S.view store.new)) }
 {
-    let Some(model) = request.model() else {
-        unreachable!();
+    let Some(name) = task.segments() else {
+        return Ok(SegmentTable::empty(alloc));
     };
-    let Some(none) = request.none() else {
-        unreachable!();
+    let bytes = match load_input(alloc, store, FileName::Segments, name, MOST_TABLE) {
+        Err(stop) => return Err(stop),
+        Ok(bytes) => bytes,
     };
-    let segments = SegmentTable::empty(alloc);
-    problem_of(alloc, c, model, none, 1, &segments, limits)
+    Ok(read_segments(alloc, bytes.as_slice(), c, task.unit())?)
+}
+
+/// The problem of a catalogue, limits and segments.
+fn problem_asked(
+    alloc: Global,
+    task: &Task<'_>,
+    c: &Catalogue,
+    limits: &Limits,
+    segments: &SegmentTable,
+) -> Result<Problem, NoMemory>
+    requires shadows { model_asked task.now ≡ model.Attract → KeepsShadows c.now }
+    requires limits { (model : ModelName) (none unit : ℕ) (segments : List NamedSegment)
+        → HasLimits (problem_data_of c.now model none unit segments limits.now.items) }
+    requires segments { model_asked task.now ≡ model.Mixed → FitSegments c.now (unit_of task.now) segments.now }
+    ensures { IfOk result (λ p. p ≡ asked_problem task.now (record no_inputs { rows = c.now; limits = limits.now.items; segments = segments.now })) }
+{
+    problem_of(
+        alloc,
+        c,
+        task.model(),
+        task.none(),
+        task.unit(),
+        segments,
+        limits,
+    )
 }
 
 /// The catalogue and the problem that a request asks for.
 pub(crate) fn read_inputs<S: Store>(
     alloc: Global,
-    request: &Request<'_>,
+    task: &Task<'_>,
     store: &mut S,
 ) -> Result<Inputs, Stop>
-    requires { IsComplete request.now }
     ensures passes { Passes (S.view store.old) (S.view store.new) }
-    ensures problem { IfOk result (λ i. i.problem ≡ asked_problem request.now (record { rows = i.catalogue; limits = i.problem.limits })) }
+    ensures problem { IfOk result (λ i. i.problem ≡ asked_problem task.now (record { rows = i.catalogue; limits = i.problem.limits; segments = i.segments; proof = [] })) }
+    ensures model { IfOk result (λ i. i.problem.model ≢ model.Chain) }
     ensures given { IfOk result (λ i. IsTrue (S.view store.old).tells
-        → Gives request.now (S.view store.old) (record { rows = i.catalogue; limits = i.problem.limits })) }
-    ensures stopped { IfErr result (WhyStopped request.now (S.view store.old) (S.view store.new)) }
+        → GivesBefore table_count task.now (S.view store.old) (record { rows = i.catalogue; limits = i.problem.limits; segments = i.segments; proof = [] })) }
+    ensures stopped { IfErr result (WhyStopped task.now (S.view store.old) (S.view store.new)) }
 {
-    let catalogue = match read_catalogue(alloc, request, store) {
+    let catalogue = match read_catalogue(alloc, task, store) {
         Err(stop) => return Err(stop),
         Ok(catalogue) => catalogue,
     };
-    let limits = match read_request_limits(alloc, request, store, &catalogue) {
+    let limits = match read_request_limits(alloc, task, store, &catalogue) {
         Err(stop) => return Err(stop),
         Ok(limits) => limits,
     };
-    let problem = problem_asked(alloc, request, &catalogue, &limits)?;
-    Ok(Inputs { catalogue, problem })
+    let segments = match read_request_segments(alloc, task, store, &catalogue, &limits) {
+        Err(stop) => return Err(stop),
+        Ok(segments) => segments,
+    };
+    let problem = problem_asked(alloc, task, &catalogue, &limits, &segments)?;
+    Ok(Inputs {
+        catalogue,
+        segments,
+        problem,
+    })
 }

@@ -1,16 +1,16 @@
 //! All that the program does, from the words of the command line to the bytes that it writes.
 #![tactic(auto)]
 
-mod answers;
-mod best;
-mod check;
-mod fault_line;
+mod answer;
+mod commands;
 mod inputs;
-mod proof;
-mod solve;
-mod stops;
+mod lines;
+mod means;
+mod optimum;
+mod output_file;
+mod stop;
+mod task;
 mod top;
-mod usage_line;
 
-pub use check::MOST_PROOF;
+pub use commands::check::MOST_PROOF;
 pub use top::run;

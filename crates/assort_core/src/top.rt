@@ -1,18 +1,17 @@
 //! One run: words, request, answer, and what is printed.
 ghost use Rattle.std.specs.Prelude.{◌≡◌, ◌≢◌, ◌≤◌, ◌<◌, ◌⊎◌, IsTrue, IfOk, IsOkAnd, MatchResult};
 ghost use Rattle.offer_io.specs.Causes.{Rose};
-ghost use Rattle.assort_words.specs.declared.usage.Command.TheVariants as command;
 ghost use Rattle.assort_words.specs.Asked.{asked_of};
 ghost use Rattle.assort_core.specs.Lines.{usage_line, memory_line, unwritten_line};
-ghost use Rattle.assort_core.specs.Runs.{Performs, Prints, FailsToPrint, Says, StoreFails, OutFails, IsAnswerable, HoldsInputs, ClaimHolds, OthersStand, ProofStands, ProofMayStand, ProofIsSealed, FilesStand, Endures};
+ghost use Rattle.assort_core.specs.Runs.{Performs, Prints, FailsToPrint, Says, StoreFails, OutFails, IsAnswerable, HoldsInputs, ClaimHolds, OthersStand, OutputStands, OutputMayStand, OutputIsSealed, FilesStand, Endures};
 ghost use Rattle.assort_core.specs.Stops.{status_of, stop_line};
 
-use crate::answers::answer_to;
-use crate::fault_line::{fault_line, unread_line};
-use crate::solve::Answer;
-use crate::stops::Stop;
-use crate::usage_line::usage_line;
-use assort_words::read_words;
+use crate::answer::{Answer, answer_to};
+use crate::lines::fault_line::{fault_line, unread_line};
+use crate::lines::usage_line::usage_line;
+use crate::means::Means;
+use crate::stop::Stop;
+use crate::task::read_task;
 use offer_io::{Gate, Sink, Store};
 use offer_model::Texts;
 use std::alloc::Global;
@@ -70,7 +69,7 @@ fn print<O: Sink, E: Sink>(out: &mut O, err: &mut E, answer: &Answer) -> u8
 /// All that the program does. It answers the status; every call returns.
 ///
 /// The words are those after the program's name. A report is made in memory and written to `out` at once, a line on
-/// what went wrong to `err`. No command has workers yet, so `rt` and `gate` aren't used.
+/// what went wrong to `err`. No command has workers yet, so `rt` and `gate` are only handed down.
 pub fn run<R: Threads + Sync, S: Store, O: Sink, E: Sink, G: Gate + Sync>(
     rt: &R,
     alloc: Global,
@@ -101,34 +100,34 @@ pub fn run<R: Threads + Sync, S: Store, O: Sink, E: Sink, G: Gate + Sync>(
 
     // 5 is want of memory. The proof is as it was, or a part from its front where the files have no fault.
     ensures memory { result ≡ 5 → Says (E.view err.old) memory_line (E.view err.new) }
-    ensures part { result ≡ 5 → IfOk (asked_of words.now) (λ r. ProofMayStand r (S.view store.old) (S.view store.new)) }
+    ensures part { result ≡ 5 → IfOk (asked_of words.now) (λ r. OutputMayStand r (S.view store.old) (S.view store.new)) }
 
     // Where the request can be answered and no count of faults rose, its report is printed, or memory ran out.
     ensures complete { IsOkAnd (asked_of words.now) (λ r. IsAnswerable r (S.view store.old))
         → (Rose (S.view store.old).faults (S.view store.new).faults → ⊥)
         → (Rose (O.view out.old).faults (O.view out.new).faults → ⊥) → (result < 2) ⊎ (result ≡ 5) }
 
-    // 0 of `check`: the proof's assortment is the best one.
+    // 0: what it claims is so; of `check`, that the proof's assortment is the best one.
     ensures checked { result ≡ 0 → IsTrue (S.view store.old).tells
-        → IfOk (asked_of words.now) (λ r. r.command ≡ command.Check → ClaimHolds r (S.view store.old)) }
+        → IfOk (asked_of words.now) (λ r. ClaimHolds r (S.view store.old)) }
 
     // What was printed, and what stands afterwards.
     ensures silent { result ≢ 0 → result ≢ 1 → result ≢ 4 → O.view out.new ≡ O.view out.old }
     ensures quiet { result < 2 → E.view err.new ≡ E.view err.old }
     ensures others { IfOk (asked_of words.now) (λ r. OthersStand r (S.view store.old) (S.view store.new)) }
-    ensures proof { result ≡ 0 → IfOk (asked_of words.now) (λ r. ProofStands r (S.view store.old) (S.view store.new)) }
-    ensures sealed { result ≡ 0 → IfOk (asked_of words.now) (λ r. ProofIsSealed r (S.view store.new)) }
+    ensures proof { result ≡ 0 → IfOk (asked_of words.now) (λ r. OutputStands r (S.view store.old) (S.view store.new)) }
+    ensures sealed { result ≡ 0 → IfOk (asked_of words.now) (λ r. OutputIsSealed r (S.view store.new)) }
     ensures kept { 0 < result → result < 4 → FilesStand (S.view store.old) (S.view store.new) }
     ensures endures { Endures (S.view store.old) (S.view store.new) }
 {
-    let request = match read_words(words) {
+    let task = match read_task(words) {
         Err(fault) => {
             say(err, usage_line(&fault).as_str().as_bytes());
             return 2;
         }
-        Ok(request) => request,
+        Ok(task) => task,
     };
-    match answer_to(alloc, &request, store) {
+    match answer_to(&Means { rt, alloc, gate }, &task, store) {
         Err(stop) => refuse(err, stop),
         Ok(answer) => print(out, err, &answer),
     }

@@ -1,4 +1,0 @@
-use Rattle.assort_core.proofs.best.best_assortment.Given as goal
-
-abbrev pub ghosts-best_counted : goal.ghosts-best_counted
-ghosts-best_counted a = record { name = a.blank.name; parts = a.blank.parts }

@@ -1,0 +1,119 @@
+-- The files that a request reads, as stages in the order of work: each a file, its name, and how its bytes are judged over
+-- what the files before it gave. A further file is a further stage. Own.
+use Rattle.std.specs.Prelude.{ℕ, List, [], ◌∷◌, Option, None, unwrap_or, Result, Ok, Err}
+use Rattle.offer_model.specs.declared.products.Limit.{Limit}
+use Rattle.offer_model.specs.declared.products.ModelName.{ModelName}
+use Rattle.offer_model.specs.declared.products.ModelName.TheVariants.{Logit, Attract, Mixed, Chain}
+use Rattle.offer_model.specs.Problems.{ProblemData}
+use Rattle.catalogue.specs.Sizes.{most_table}
+use Rattle.catalogue.specs.declared.faults.FileName.{FileName}
+use Rattle.catalogue.specs.declared.faults.FileName.TheVariants.{Products, Limits, Segments, Proof}
+use Rattle.catalogue.specs.declared.faults.InputFault.{InputFault}
+use Rattle.catalogue.specs.Rows.{RowData}
+use Rattle.catalogue.specs.ProductTables.{products_outcome}
+use Rattle.catalogue.specs.LimitTables.{limits_outcome}
+use Rattle.catalogue.specs.SegmentTables.{NamedSegment, segments_outcome}
+use Rattle.catalogue.specs.CatalogueProblems.{problem_data_of}
+use Rattle.assort_words.specs.declared.usage.Command.{Command}
+use Rattle.assort_words.specs.declared.usage.Command.TheVariants.{Solve, Check}
+use Rattle.assort_words.specs.Asked.{RequestData, asked_model, asked_products, asked_limits, asked_segments, asked_none, asked_unit, asked_proof}
+
+-- What the files give: the catalogue's rows, the limits, the segments, the text of a proof that is checked. A part whose file isn't asked
+-- for is empty.
+pub record InputsData : Type 0 where
+  pub rows : List RowData
+  pub limits : List Limit
+  pub segments : List NamedSegment
+  pub proof : List ℕ
+
+-- What there is before any file.
+abbrev pub no_inputs : InputsData
+no_inputs = record { rows = []; limits = []; segments = []; proof = [] }
+
+-- A file that is read where it has a name, how many bytes it may have, and what its bytes give over what there is.
+pub record Stage : Type 0 where
+  pub file : FileName
+  pub name : Option (List ℕ)
+  pub most : ℕ
+  pub outcome : InputsData → List ℕ → Result InputsData InputFault
+
+-- What there is, with what a file gave.
+abbrev pub with_part : {A : Type 0} → Result A InputFault → (A → InputsData) → Result InputsData InputFault
+with_part (Ok a) put = Ok (put a)
+with_part (Err fault) put = Err fault
+
+-- The model of a request.
+abbrev pub model_asked : RequestData → ModelName
+model_asked r = unwrap_or (asked_model r) Logit
+
+-- The unit where none is given: a hundredth of a margin unit.
+abbrev pub usual_unit : ℕ
+usual_unit = 100
+
+abbrev pub unit_under : ModelName → Option ℕ → ℕ
+unit_under Logit unit = 1
+unit_under Attract unit = 1
+unit_under Mixed unit = unwrap_or unit usual_unit
+unit_under Chain unit = 1
+
+-- The unit of a request: what a segment's revenue is rounded down to under mixed logit, else 1.
+abbrev pub unit_of : RequestData → ℕ
+unit_of r = unit_under (model_asked r) (asked_unit r)
+
+-- ---- The stages.
+
+abbrev pub products_stage : RequestData → Stage
+products_stage r = record {
+  file = Products;
+  name = asked_products r;
+  most = most_table;
+  outcome = λ i bytes. with_part (products_outcome (model_asked r) bytes) (λ rows. record i { rows = rows });
+}
+
+abbrev pub limits_stage : RequestData → Stage
+limits_stage r = record {
+  file = Limits;
+  name = asked_limits r;
+  most = most_table;
+  outcome = λ i bytes. with_part (limits_outcome i.rows bytes) (λ limits. record i { limits = limits });
+}
+
+abbrev pub segments_stage : RequestData → Stage
+segments_stage r = record {
+  file = Segments;
+  name = asked_segments r;
+  most = most_table;
+  outcome = λ i bytes. with_part (segments_outcome i.rows (unit_of r) bytes) (λ segments. record i { segments = segments });
+}
+
+-- The proof that a command reads, where it reads one.
+abbrev pub read_proof : Command → RequestData → Option (List ℕ)
+read_proof Solve r = None
+read_proof Check r = asked_proof r
+
+-- The most bytes of a proof that is checked.
+abbrev pub most_proof : ℕ
+most_proof = 268435456
+
+-- A proof's bytes are no fault, whatever they are.
+abbrev pub proof_stage : RequestData → Stage
+proof_stage r = record {
+  file = Proof;
+  name = read_proof r.command r;
+  most = most_proof;
+  outcome = λ i bytes. Ok (record i { proof = bytes });
+}
+
+-- The stages of a request, in the order of work.
+abbrev pub stages : RequestData → List Stage
+stages r = products_stage r ∷ limits_stage r ∷ segments_stage r ∷ proof_stage r ∷ []
+
+-- How many of them are tables: all but the proof.
+abbrev pub table_count : ℕ
+table_count = 3
+
+-- ---- What they make.
+
+-- The problem of a request over what its files give.
+abbrev pub asked_problem : RequestData → InputsData → ProblemData
+asked_problem r i = problem_data_of i.rows (model_asked r) (unwrap_or (asked_none r) 0) (unit_of r) i.segments i.limits

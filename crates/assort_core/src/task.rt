@@ -1,0 +1,110 @@
+//! A request with all that its command needs.
+ghost use Rattle.std.specs.Prelude.{◌≡◌, ◌≢◌, Some, IsSome, unwrap_or};
+ghost use Rattle.std.specs.Option.{option_copied};
+ghost use Rattle.offer_model.specs.Validity.{IsPositiveAmount, IsRatioModel};
+ghost use Rattle.offer_model.specs.declared.products.ModelName.TheVariants as name;
+ghost use Rattle.assort_words.specs.declared.usage.Command.TheVariants as command;
+ghost use Rattle.assort_words.specs.Asked.{asked_of, asked_products, asked_limits, asked_segments, asked_none, asked_proof};
+ghost use Rattle.assort_core.specs.Stages.{model_asked, unit_of};
+
+use assort_words::{Command, Request, UsageFault, read_words};
+use offer_model::{ModelName, Texts};
+use std::marker::Model;
+
+/// The unit where none is given: a hundredth of a margin unit.
+pub const USUAL_UNIT: u64 = 100;
+
+/// A request that is complete: each part that its command and its model need is there.
+#[derive(Drop)]
+pub(crate) struct Task<'a> {
+    request: Request<'a>,
+}
+
+impl<'a> Model for Task<'a> {
+    ghost use Rattle.assort_words.specs.Asked.{RequestData, IsComplete};
+
+    ghost Value = { RequestData };
+
+    ghost view = { λ t. t.request };
+
+    ghost invariant = { λ t. IsComplete t.request };
+}
+
+impl<'a> Task<'a> {
+    pub(crate) fn command(&self) -> Command
+        ensures { result ≡ self.now.command }
+    {
+        self.request.command()
+    }
+
+    pub(crate) fn model(&self) -> ModelName
+        ensures value { result ≡ model_asked self.now }
+        ensures problem { result ≢ name.Chain }
+    {
+        self.request.model().unwrap()
+    }
+
+    pub(crate) fn products(&self) -> &'a str
+        ensures { asked_products self.now ≡ Some result.now }
+    {
+        self.request.products().unwrap()
+    }
+
+    pub(crate) fn limits(&self) -> Option<&'a str>
+        ensures { option_copied result ≡ asked_limits self.now }
+    {
+        self.request.limits()
+    }
+
+    /// The segments file, which there is under mixed logit.
+    pub(crate) fn segments(&self) -> Option<&'a str>
+        ensures value { option_copied result ≡ asked_segments self.now }
+        ensures some { model_asked self.now ≡ name.Mixed → IsSome result }
+    {
+        self.request.segments()
+    }
+
+    /// The weight of buying nothing, 0 under mixed logit.
+    pub(crate) fn none(&self) -> u64
+        ensures value { result ≡ unwrap_or (asked_none self.now) 0 }
+        ensures valid { IsRatioModel (model_asked self.now) → IsPositiveAmount result }
+    {
+        self.request.none().unwrap_or(0)
+    }
+
+    /// The unit, 1 but under mixed logit.
+    pub(crate) fn unit(&self) -> u64
+        ensures value { result ≡ unit_of self.now }
+        ensures valid { IsPositiveAmount result }
+    {
+        match self.model() {
+            ModelName::Mixed => self.request.unit().unwrap_or(USUAL_UNIT),
+            ModelName::Logit | ModelName::Attract | ModelName::Chain => 1,
+        }
+    }
+
+    /// The name of the proof that is written, where one is asked for.
+    pub(crate) fn proof(&self) -> Option<&'a str>
+        ensures { option_copied result ≡ asked_proof self.now }
+    {
+        self.request.proof()
+    }
+
+    /// The name of the proof that is checked.
+    pub(crate) fn checked_proof(&self) -> &'a str
+        requires { self.now.command ≡ command.Check }
+        ensures { asked_proof self.now ≡ Some result.now }
+    {
+        self.request.proof().unwrap()
+    }
+}
+
+/// The task of the words, or their first refusal. It takes no memory.
+pub(crate) fn read_task<'a>(words: &'a Texts) -> Result<Task<'a>, UsageFault>
+    ensures { result ≡ asked_of words.now }
+{
+    match read_words(words) {
+        Err(fault) => Err(fault),
+        Ok(request) => Ok(Task { request }),
+    }
+}
