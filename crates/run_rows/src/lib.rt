@@ -1,5 +1,5 @@
 //! Tests of whole runs, alone: stores and sinks that fail, the host's files, each kind of
-//! limits, and how often a step is called. They stand here, since a crate with tests is proved twice.
+//! limits, mixed logit. They stand here, since a crate with tests is proved twice.
 #![tactic(auto)]
 
 #[cfg(test)]
@@ -9,8 +9,8 @@ mod host_files;
 #[cfg(test)]
 mod kinds;
 #[cfg(test)]
+mod mixed;
+#[cfg(test)]
 mod runs;
 #[cfg(test)]
 mod sizes;
-#[cfg(test)]
-mod step_counts;

@@ -1,4 +1,4 @@
-//! Tests of the steps, alone: what each answers over problems from two CSV texts. They stand here, since a crate with tests
+//! Tests of the steps, alone: what each answers over problems from two CSV texts, and how often one is called. They stand here, since a crate with tests
 //! is proved twice.
 #![tactic(auto)]
 
@@ -6,5 +6,7 @@
 mod printed;
 #[cfg(test)]
 mod problems;
+#[cfg(test)]
+mod step_counts;
 #[cfg(test)]
 mod steps;

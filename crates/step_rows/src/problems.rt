@@ -16,7 +16,7 @@ pub fn catalogue_in(rt: &impl Abort, alloc: Global, products: &[u8]) -> Catalogu
     }
 }
 
-/// The problem under logit of these files. Each limits file lacks its header.
+/// The problem under logit of these files.
 pub fn problem_in(
     rt: &impl Abort,
     alloc: Global,

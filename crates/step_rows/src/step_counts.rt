@@ -1,18 +1,17 @@
 //! How often the step of caps is called for one best assortment: at most 80 times, and once more for each product.
-ghost use Rattle.std.specs.Prelude.{◌≡◌, ◌<◌, IfOk};
+ghost use Rattle.std.specs.Prelude.{◌≡◌, ◌<◌};
 ghost use Rattle.offer_model.specs.Validity.{IsRatioModel};
 ghost use Rattle.limit_rules.specs.Kinds.{kind_of};
 ghost use Rattle.limit_rules.specs.declared.kind.Kind.TheVariants as kind;
 
-use catalogue::{MOST_TABLE, SegmentTable, problem_of, read_limits, read_products};
+use crate::problems::problem_in;
 use limit_rules::{Kind, kind_of};
 use linear_step::{Step, Steps, Weights};
-use offer_model::{Assortment, ModelName, NoMemory, Node, Problem};
+use offer_model::{Assortment, NoMemory, Node, Problem};
 use rank_step::CapsStep;
 use ratio_loop::best_ratio;
 use std::alloc::Global;
 use std::marker::Brand;
-use std::process::Abort;
 use std::sync::ledger::{Blank, Ledger};
 use std::test::Fail;
 
@@ -53,36 +52,6 @@ fn calls_for_best<L: Ledger>(alloc: Global, p: &Problem, blank: Blank) -> Result
     };
     best_ratio(alloc, &mut step, p, &mut steps)?;
     Ok(step.calls)
-}
-
-/// The problem under logit of these files.
-fn problem_in(
-    rt: &impl Abort,
-    alloc: Global,
-    none: u64,
-    products: &[u8],
-    limits: &[u8],
-) -> Result<Problem, NoMemory>
-    ensures { IfOk result (λ p. IsRatioModel p.model) }
-{
-    assert!(rt; none >= 1 && none <= 1000);
-    assert!(rt; products.len() <= MOST_TABLE && limits.len() <= MOST_TABLE);
-    let Ok(catalogue) = read_products(alloc, products, ModelName::Logit) else {
-        panic!(rt; "no catalogue");
-    };
-    let Ok(limits) = read_limits(alloc, limits, &catalogue) else {
-        panic!(rt; "no limits");
-    };
-    let segments = SegmentTable::empty(alloc);
-    problem_of(
-        alloc,
-        &catalogue,
-        ModelName::Logit,
-        none,
-        1,
-        &segments,
-        &limits,
-    )
 }
 
 /// 256 products whose margins fall to a half and whose attractions rise fourfold with each eighth one, so that many trials

@@ -1,4 +1,4 @@
-use Rattle.run_rows.proofs.step_counts.a_step_is_called_at_most_80_times_and_once_for_each_product.Given as goal
+use Rattle.step_rows.proofs.step_counts.a_step_is_called_at_most_80_times_and_once_for_each_product.Given as goal
 
 -- The ledger of each case's count is the blank that it is handed.
 abbrev pub ghosts-calls_for_best : goal.ghosts-calls_for_best
