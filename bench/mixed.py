@@ -1,0 +1,182 @@
+#!/usr/bin/env python3
+"""Measures solve, certificates and check under mixed logit beside HiGHS, GLPK and CBC on the usual mixed-integer model. See README.md.
+
+The model: x_i is whether product i is offered, y0 the chance of buying nothing in a segment, z_i = x_i * y0 there, so that product i is
+bought with the chance (v_i / v_0) * z_i. A cap K on all products is the row sum z_i <= K * y0 of each segment."""
+import os
+import random
+import subprocess
+
+from calls import NODES, calls, count
+from limits import cell, solver
+from run import PROGRAM, best_time, in_folder, machine, options, report
+
+REPEATS = 3
+MASK = (1 << 64) - 1
+
+# The most bytes of a certificate that check reads.
+MOST_PROOF = 268435456
+
+
+def words_from(seed):
+    """The words of SplitMix64."""
+    while True:
+        seed = (seed + 0x9E3779B97F4A7C15) & MASK
+        z = ((seed ^ (seed >> 30)) * 0xBF58476D1CE4E5B9) & MASK
+        z = ((z ^ (z >> 27)) * 0x94D049BB133111EB) & MASK
+        yield z ^ (z >> 31)
+
+
+class Mixed:
+    """Margins, segments as (size, weight of buying nothing, attractions), and a cap on all products, None without one."""
+
+    def __init__(self, name, margins, segments, cap):
+        self.name, self.margins, self.segments, self.cap = name, margins, segments, cap
+
+    def write(self, folder):
+        n = len(self.margins)
+        with open(os.path.join(folder, 'products.csv'), 'w') as f:
+            f.write('name,margin\n' + ''.join('p%d,%d\n' % (i, self.margins[i]) for i in range(n)))
+        with open(os.path.join(folder, 'segments.csv'), 'w') as f:
+            f.write('segment,product,size,attraction\n')
+            for g, (size, none, attractions) in enumerate(self.segments):
+                f.write('g%d,,%d,%d\n' % (g, size, none))
+                f.write(''.join('g%d,p%d,,%d\n' % (g, i, v) for i, v in enumerate(attractions) if v))
+        with open(os.path.join(folder, 'limits.csv'), 'w') as f:
+            f.write('kind,first,second,number\n' + ('' if self.cap is None else 'total,,,%d\n' % self.cap))
+
+
+def trial(n, seed):
+    """The inputs of the generator that the formats fix: weights of buying nothing near the attractions."""
+    z = words_from(seed)
+    margins = [1 + next(z) % 1000 for _ in range(n)]
+    segments = []
+    for _ in range(min(n + 1, 4)):
+        head = next(z)
+        segments.append((1 + head % 10, 50 + head // 10 % 100, [next(z) % 100 for _ in range(n)]))
+    return Mixed('trial, %d products, seed %d' % (n, seed), margins, segments, n // 3 + 1)
+
+
+def reluctant(n, seed):
+    """Most customers buy nothing: weights from 1,000 to 1,999 beside attractions from 0 to 99."""
+    draw = random.Random(seed)
+    margins = [draw.randint(1, 1000) for _ in range(n)]
+    segments = [(draw.randint(1, 10), draw.randint(1000, 1999), [draw.randint(0, 99) for _ in range(n)]) for _ in range(4)]
+    return Mixed('reluctant, %d products, seed %d' % (n, seed), margins, segments, n // 3 + 1)
+
+
+def words_of(folder, command, proof=None):
+    path = lambda name: os.path.join(folder, name)
+    return [PROGRAM, command, '--model', 'mixed', '--products', path('products.csv'), '--limits', path('limits.csv'),
+            '--segments', path('segments.csv')] + (['--proof', proof] if proof else [])
+
+
+def program(folder, command, proof=None, most=None):
+    said = subprocess.run(words_of(folder, command, proof), stdout=subprocess.PIPE, check=True, timeout=most).stdout.decode()
+    assert command == 'solve' or said == 'accepted\n', 'a certificate was rejected'
+    return said
+
+
+def model_of(case):
+    """The columns' count, the objective, and the rows as (terms, sense, right side), over the columns x, then y0 and z by segment."""
+    n = len(case.margins)
+    total, objective, rows = n, {}, []
+    for size, none, attractions in case.segments:
+        y, z = total, total + 1
+        total += n + 1
+        rows.append(({y: 1.0, **{z + i: v / none for i, v in enumerate(attractions)}}, '=', 1.0))
+        for i, v in enumerate(attractions):
+            objective[z + i] = size * case.margins[i] * v / none
+            rows.append(({z + i: 1.0, y: -1.0}, '<=', 0.0))
+            rows.append(({z + i: 1.0, i: -none / (none + v)}, '<=', 0.0))
+            rows.append(({y: 1.0, z + i: -1.0, i: 1.0}, '<=', 1.0))
+        if case.cap is not None:
+            rows.append(({y: -float(case.cap), **{z + i: 1.0 for i in range(n)}}, '<=', 0.0))
+    if case.cap is not None:
+        rows.append(({i: 1.0 for i in range(n)}, '<=', float(case.cap)))
+    return total, objective, rows
+
+
+def write_lp(case, path):
+    total, objective, rows = model_of(case)
+    terms = lambda row: ' '.join('%+.17g v%d' % (value, column) for column, value in row.items())
+    with open(path, 'w') as f:
+        f.write('Maximize\n obj: %s\nSubject To\n' % terms(objective))
+        f.write(''.join(' r%d: %s %s %.17g\n' % (k, terms(row), sense, right) for k, (row, sense, right) in enumerate(rows)))
+        f.write('Binary\n ' + ' '.join('v%d' % i for i in range(len(case.margins))) + '\nEnd\n')
+
+
+def highs(case, most):
+    try:
+        import numpy
+        from scipy.optimize import Bounds, LinearConstraint, milp
+        from scipy.sparse import lil_matrix
+    except ImportError:
+        return None
+    total, objective, rows = model_of(case)
+    n, matrix, low, high = len(case.margins), lil_matrix((len(rows), total)), [], []
+    for k, (row, sense, right) in enumerate(rows):
+        for column, value in row.items():
+            matrix[k, column] = value
+        low.append(right if sense == '=' else -numpy.inf)
+        high.append(right)
+    cost = numpy.zeros(total)
+    for column, value in objective.items():
+        cost[column] = -value
+    whole = numpy.array([1] * n + [0] * (total - n))
+    limits = LinearConstraint(matrix.tocsr(), low, high)
+    return lambda: milp(cost, constraints=limits, integrality=whole, bounds=Bounds(0, 1), options={'time_limit': most, 'mip_rel_gap': 0}).status == 0
+
+
+def ended(work):
+    """The time of a piece of work in milliseconds, or None where it was cut off."""
+    try:
+        return best_time(work, 1)[0]
+    except subprocess.TimeoutExpired:
+        return None
+
+
+def certificate(folder, own, most):
+    """The cells of a certificate: times of writing and checking, its lines and bytes."""
+    proof = os.path.join(folder, 'proof.txt')
+    written = ended(lambda: program(folder, 'solve', proof, most))
+    if written is None:
+        return ['more than %d s' % most, '', '', '']
+    with open(proof, 'rb') as f:
+        lines = sum(1 for _ in f)
+    size, text = os.path.getsize(proof), '%.1f (%.1fx)' % (written, written / own)
+    if size > MOST_PROOF:
+        return [text, 'too large', str(lines), str(size)]
+    checked, _ = best_time(lambda: program(folder, 'check', proof), REPEATS)
+    return [text, '%.1f (%.1fx)' % (checked, checked / own), str(lines), str(size)]
+
+
+def row(case, folder, most):
+    case.write(folder)
+    first = ended(lambda: program(folder, 'solve', None, most))
+    if first is None:
+        return '| %s | more than %d s |  |  |  |  |  |  |  |  |' % (case.name, most)
+    own = first if first > 1000 else best_time(lambda: program(folder, 'solve'), REPEATS)[0]
+    cells = [case.name, '%.1f' % own, count(calls(words_of(folder, 'solve'), folder), NODES)] + certificate(folder, own, most)
+    path, solution = os.path.join(folder, 'model.lp'), os.path.join(folder, 'solution')
+    write_lp(case, path)
+    peers = [highs(case, most), solver(['glpsol', '--lp', path, '-o', solution], most), solver(['cbc', path, 'solve', 'solu', solution, 'quit'], most)]
+    return '| ' + ' | '.join(cells + [cell(peer, own, 1) for peer in peers]) + ' |'
+
+
+def main():
+    parser = options(__doc__)
+    parser.add_argument('--trial', type=int, nargs='*', default=[32, 64, 128], help='how many products, for each a row of trial inputs')
+    parser.add_argument('--reluctant', type=int, nargs='*', default=[16, 24, 32], help='how many products, for each a row where most buy nothing')
+    parser.add_argument('--seconds', type=int, default=60, help='how long a piece of work may take')
+    given = parser.parse_args()
+    cases = [trial(n, 7) for n in given.trial] + [reluctant(n, 7) for n in given.reluctant]
+    lines = ['Milliseconds, the least of %d; in brackets how many times the time of solve. The peers run once, at most %d seconds. Nodes are those' % (REPEATS, given.seconds),
+             'of one solve without a certificate.', '', machine(), '',
+             '| input | solve | nodes | solve with a certificate | check | its lines | its bytes | HiGHS | GLPK | CBC |', '|---|---|---|---|---|---|---|---|---|---|']
+    lines += in_folder(lambda folder: [row(case, folder, given.seconds) for case in cases])
+    report('solve and check under mixed logit', lines, ['mixed'], given.keep)
+
+
+if __name__ == '__main__':
+    main()
