@@ -171,8 +171,8 @@ def main():
     parser.add_argument('--seconds', type=int, default=60, help='how long a piece of work may take')
     given = parser.parse_args()
     cases = [trial(n, 7) for n in given.trial] + [reluctant(n, 7) for n in given.reluctant]
-    lines = ['Milliseconds, the least of %d; in brackets how many times the time of solve. The peers run once, at most %d seconds. Nodes are those' % (REPEATS, given.seconds),
-             'of one solve without a certificate.', '', machine(), '',
+    lines = ['Milliseconds, the least of %d; in brackets how many times the time of solve. The peers run once, at most %d seconds. Nodes are those of one solve without a certificate.' % (REPEATS, given.seconds),
+             '', machine(), '',
              '| input | solve | nodes | solve with a certificate | check | its lines | its bytes | HiGHS | GLPK | CBC |', '|---|---|---|---|---|---|---|---|---|---|']
     lines += in_folder(lambda folder: [row(case, folder, given.seconds) for case in cases])
     report('solve and check under mixed logit', lines, ['mixed'], given.keep)
