@@ -4,7 +4,7 @@ use Rattle.offer_model.specs.declared.products.ModelName.{ModelName}
 use Rattle.offer_model.specs.declared.products.ModelName.TheVariants.{Logit, Attract, Mixed, Chain}
 use Rattle.offer_model.specs.Problems.{ProblemData, product_count, first_segment}
 use Rattle.offer_model.specs.Revenue.{gain_of, weight_of, value_of}
-use Rattle.catalogue.specs.Rows.{RowData}
+use Rattle.catalogue_rows.specs.Rows.{RowData}
 
 abbrev pub model_text : ModelName → List ℕ
 model_text Logit = codes "logit"

@@ -11,8 +11,8 @@ use Rattle.offer_model.specs.declared.products.ModelName.TheVariants.{Logit, Att
 use Rattle.offer_model.specs.declared.ranges.TheConstants.{MOST_AMOUNT}
 use Rattle.offer_model.specs.Problems.{SegmentData, ProblemData, product_count, shadow_of}
 use Rattle.offer_model.specs.Validity.{IsPositiveAmount, IsProduct, IsSegment, IsRatioModel, IsPlainModel, IsProblem, HasLimits}
-use Rattle.catalogue.specs.Rows.{RowData, no_row, row_at, IsCatalogue}
-use Rattle.catalogue.specs.CatalogueProblems.{shadow_under, segment_of, problem_data_of, KeepsShadows, FitSegments}
+use Rattle.catalogue_rows.specs.Rows.{RowData, no_row, row_at, IsCatalogue, KeepsShadows}
+use Rattle.catalogue.specs.CatalogueProblems.{shadow_under, segment_of, problem_data_of, FitSegments}
 use Rattle.catalogue.specs.SegmentTables.{NamedSegment}
 
 -- One more item, read by its place.

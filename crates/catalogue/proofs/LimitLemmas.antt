@@ -20,16 +20,17 @@ use Rattle.table_reader.specs.Tables.{TableData}
 use Rattle.catalogue.specs.Columns.{first_column, second_column, number_column}
 use Rattle.catalogue.specs.declared.limit_kinds.LimitKind.{LimitKind}
 use Rattle.catalogue.specs.declared.limit_kinds.LimitKind.TheVariants.{Total, Category, Requires, Shelf, Ladder}
-use Rattle.catalogue.specs.declared.faults.FileName.TheVariants.{Limits}
-use Rattle.catalogue.specs.Faults.{first_row_fault}
-use Rattle.catalogue.specs.Cells.{text_of, written_number}
+use Rattle.catalogue_rows.specs.declared.faults.FileName.TheVariants.{Limits}
+use Rattle.catalogue_rows.specs.Faults.{first_row_fault}
+use Rattle.catalogue_rows.specs.Cells.{text_of, written_number}
 use Rattle.catalogue.specs.CatalogueProblems.{problem_data_of}
-use Rattle.catalogue.specs.Rows.{RowData, no_row, row_at, HasNumbers}
+use Rattle.catalogue_rows.specs.Rows.{RowData, no_row, row_at, HasNumbers}
 use Rattle.catalogue.specs.SegmentTables.{NamedSegment}
-use Rattle.catalogue.specs.LimitTables.{kind_of_row, category_named, ladder_named, product_named, first_named, second_named, limit_by, limit_under, stated_limit, limits_before, repeats, line_fault, requires_fault, named_fault, cap_fault, repeated_fault, fields_fault, fault_of_kind, limit_fault}
-use Rattle.catalogue.proofs.FaultLemmas.{all_none, no_fault_if, no_fault_else, row_is_clean}
+use Rattle.catalogue_rows.specs.Places.{product_named}
+use Rattle.catalogue.specs.LimitTables.{kind_of_row, category_named, ladder_named, first_named, second_named, limit_by, limit_under, stated_limit, limits_before, repeats, line_fault, requires_fault, named_fault, cap_fault, repeated_fault, fields_fault, fault_of_kind, limit_fault}
+use Rattle.catalogue_rows.proofs.FaultLemmas.{all_none, no_fault_if, no_fault_else, row_is_clean}
 use Rattle.catalogue.proofs.LimitNameLemmas.{number_is_had}
-use Rattle.catalogue.proofs.ProductLemmas.{in_range}
+use Rattle.catalogue_rows.proofs.ProductLemmas.{in_range}
 
 -- Limits repeat each other both ways.
 repeats_back : (a b : Limit) → Repeats a b → repeats b a ≡ true

@@ -8,9 +8,9 @@ use Rattle.std.proofs.lemmas.List.Quantifiers.{position-Some}
 use Rattle.std.proofs.lemmas.Slice.Eq.{bytes_eq-Decides}
 use Rattle.table_reader.specs.Tables.{is_among}
 use Rattle.table_reader.proofs.PositionLemmas.{position_in_map, position_there}
-use Rattle.catalogue.specs.Names.{distinct_names, place_in, number_in}
-use Rattle.catalogue.specs.Rows.{RowData, no_row, row_at}
-use Rattle.catalogue.proofs.NameLemmas.{among_others, empty_is_no_name, none_if_gone}
+use Rattle.catalogue_rows.specs.Names.{distinct_names, place_in, number_in}
+use Rattle.catalogue_rows.specs.Rows.{RowData, no_row, row_at}
+use Rattle.catalogue_rows.proofs.NameLemmas.{among_others, empty_is_no_name, none_if_gone}
 
 -- A name is among the names exactly where it is among the texts.
 among_distinct : (texts : List (List ℕ)) (text : List ℕ) → (length text == 0) ≡ false → is_among text (distinct_names texts) ≡ is_among text texts

@@ -15,13 +15,13 @@ use Rattle.offer_model.specs.Problems.{shadow_of}
 use Rattle.offer_model.specs.Validity.{IsPositiveAmount, IsSegment}
 use Rattle.table_reader.specs.Tables.{TableData}
 use Rattle.table_reader.proofs.PositionLemmas.{position_there, position_kept, position_new}
-use Rattle.catalogue.specs.Cells.{range_fault}
-use Rattle.catalogue.specs.Rows.{RowData}
+use Rattle.catalogue_rows.specs.Cells.{range_fault}
+use Rattle.catalogue_rows.specs.Rows.{RowData}
 use Rattle.catalogue.specs.Drafts.{DraftData, IsDraft, segment_drafted}
 use Rattle.catalogue.specs.SegmentTables.{segment_text, row_size, row_weight, is_head, heads_before, sizes_before, names_pair, attraction_before, attractions_before, segment_begun, segments_of, NamedSegment}
 use Rattle.catalogue.specs.SegmentDrafts.{draft_begun, drafts_before}
 use Rattle.catalogue.specs.CatalogueProblems.{FitSegments}
-use Rattle.catalogue.proofs.FaultLemmas.{no_fault_else}
+use Rattle.catalogue_rows.proofs.FaultLemmas.{no_fault_else}
 
 -- A number from 1 without a fault is in its range.
 pub positive_amount : (o : Option ℕ) → range_fault 1 MOST_AMOUNT o ≡ None → IsPositiveAmount (unwrap_or o 0)

@@ -12,12 +12,12 @@ use Rattle.std.proofs.lemmas.Slice.Eq.{bytes_eq-Decides}
 use Rattle.offer_model.specs.declared.ranges.TheConstants.{MOST_AMOUNT, MOST_SEGMENTS}
 use Rattle.table_reader.specs.Tables.{TableData, is_among}
 use Rattle.table_reader.proofs.PositionLemmas.{position_there}
-use Rattle.catalogue.specs.Cells.{text_of, number_fault}
+use Rattle.catalogue_rows.specs.Cells.{text_of, number_fault}
 use Rattle.catalogue.specs.Columns.{weight_column}
-use Rattle.catalogue.specs.Rows.{RowData, no_row, IsCatalogue}
-use Rattle.catalogue.specs.LimitTables.{product_named}
+use Rattle.catalogue_rows.specs.Rows.{RowData, no_row, IsCatalogue}
+use Rattle.catalogue_rows.specs.Places.{product_named}
 use Rattle.catalogue.specs.Drafts.{DraftData}
-use Rattle.catalogue.specs.declared.faults.Code.TheVariants.{RepeatedName}
+use Rattle.catalogue_rows.specs.declared.faults.Code.TheVariants.{RepeatedName}
 use Rattle.catalogue.specs.SegmentTables.{segment_text, product_text, row_size, row_weight, is_head, heads_before, names_before, names_pair, attraction_before, attractions_before, segment_named, pair_fault}
 use Rattle.catalogue.specs.SegmentDrafts.{draft_begun, drafts_before, attractions_said}
 use Rattle.catalogue.specs.SegmentDrafts.{BeginOthers}

@@ -14,15 +14,15 @@ use Rattle.offer_model.specs.declared.ranges.TheConstants.{MOST_AMOUNT, MOST_SEG
 use Rattle.offer_model.specs.Validity.{IsPositiveAmount}
 use Rattle.offer_model.specs.Numerals.{number_of}
 use Rattle.table_reader.specs.Tables.{TableData, is_among}
-use Rattle.catalogue.specs.Cells.{text_of, number_fault, name_fault}
+use Rattle.catalogue_rows.specs.Cells.{text_of, number_fault, name_fault}
 use Rattle.catalogue.specs.Columns.{size_column, weight_column}
-use Rattle.catalogue.specs.Names.{is_name}
-use Rattle.catalogue.specs.Rows.{RowData, IsCatalogue}
+use Rattle.catalogue_rows.specs.Names.{is_name}
+use Rattle.catalogue_rows.specs.Rows.{RowData, IsCatalogue}
 use Rattle.catalogue.specs.Drafts.{DraftData}
-use Rattle.catalogue.specs.declared.faults.Code.TheVariants.{SizesTooGreat}
+use Rattle.catalogue_rows.specs.declared.faults.Code.TheVariants.{SizesTooGreat}
 use Rattle.catalogue.specs.SegmentTables.{segment_text, product_text, row_size, row_weight, is_head, heads_before, names_before, sizes_before, names_pair, attraction_before, repeated_head, head_line_fault, sizes_fault, head_fault}
 use Rattle.catalogue.specs.SegmentDrafts.{draft_begun, drafts_before, attractions_said, BeginOthers}
-use Rattle.catalogue.proofs.FaultLemmas.{all_none, no_fault_if, no_fault_else}
+use Rattle.catalogue_rows.proofs.FaultLemmas.{all_none, no_fault_if, no_fault_else}
 use Rattle.catalogue.proofs.SegmentLemmas.{map_agree, heads_more, attraction_kept, attraction_none, positive_amount}
 
 pub or_none : {A : Type 0} (o : Option A) → option_or o None ≡ o

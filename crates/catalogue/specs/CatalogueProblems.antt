@@ -6,7 +6,7 @@ use Rattle.offer_model.specs.declared.products.ModelName.TheVariants.{Logit, Att
 use Rattle.offer_model.specs.declared.ranges.TheConstants.{MOST_AMOUNT, MOST_SEGMENTS}
 use Rattle.offer_model.specs.Problems.{SegmentData, ProblemData, shadow_of}
 use Rattle.offer_model.specs.Validity.{IsPositiveAmount, IsSegment}
-use Rattle.catalogue.specs.Rows.{RowData}
+use Rattle.catalogue_rows.specs.Rows.{RowData}
 use Rattle.catalogue.specs.SegmentTables.{NamedSegment}
 
 -- The shadow attraction that counts: none but under generalised attraction.
@@ -51,7 +51,3 @@ pub record FitSegments (rows : List RowData) (unit : ℕ) (segments : List Named
   pub each : All (λ named. length named.segment.attract ≡ length rows) segments
   pub plain : All (λ named. (i : ℕ) → shadow_of named.segment i ≡ 0) segments
   pub sizes : sum_by (λ named. named.segment.size * unit) segments ≤ MOST_AMOUNT
-
--- No product's shadow is above its attraction.
-abbrev pub KeepsShadows : List RowData → Type 0
-KeepsShadows rows = All (λ row. row.shadow ≤ row.attraction) rows

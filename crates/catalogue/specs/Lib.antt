@@ -1,15 +1,6 @@
-pub mod Sizes
 pub mod Columns
-pub mod Names
-pub mod Rows
-pub mod Cells
-pub mod Faults
-pub mod ProductTables
 pub mod LimitTables
-pub mod ProductCells
-pub mod SeenNames
 pub mod SegmentTables
 pub mod Drafts
 pub mod SegmentDrafts
 pub mod CatalogueProblems
-pub mod PrintedProducts

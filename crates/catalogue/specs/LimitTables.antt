@@ -1,5 +1,5 @@
 -- A limits file: its columns, its rows and its first fault, over the rows of a catalogue. Own.
-use Rattle.std.specs.Prelude.{ℕ, ◌+◌, ◌==◌, ◌&&◌, not, Bool, true, false, List, [], ◌∷◌, length, map, position, replicate, count_by, codes, Option, Some, None, option_map, unwrap_or, is_some, Result, Ok, Err, nat_lt, if◌then◌else◌}
+use Rattle.std.specs.Prelude.{ℕ, ◌+◌, ◌==◌, ◌&&◌, not, Bool, true, false, List, [], ◌∷◌, length, map, replicate, count_by, codes, Option, Some, None, option_map, unwrap_or, is_some, Result, Ok, Err, nat_lt, if◌then◌else◌}
 use Rattle.std.specs.List.{list_any, range_with_len}
 use Rattle.std.specs.Str.{bytes_eq}
 use Rattle.offer_model.specs.declared.products.Limit.{Limit}
@@ -13,14 +13,15 @@ use Rattle.table_reader.specs.TableFaults.{table_outcome}
 use Rattle.catalogue.specs.Columns.{kind_column, first_column, second_column, number_column}
 use Rattle.catalogue.specs.declared.limit_kinds.LimitKind.{LimitKind}
 use Rattle.catalogue.specs.declared.limit_kinds.LimitKind.TheVariants.{Total, Category, Requires, Shelf, Ladder}
-use Rattle.catalogue.specs.declared.faults.Code.{Code}
-use Rattle.catalogue.specs.declared.faults.Code.TheVariants.{UnknownName, UnknownKind, RepeatedLimit, TooManyLines}
-use Rattle.catalogue.specs.declared.faults.FileName.TheVariants.{Limits}
-use Rattle.catalogue.specs.declared.faults.InputFault.{InputFault}
-use Rattle.catalogue.specs.Names.{place_in}
-use Rattle.catalogue.specs.Cells.{text_of, written_number, number_fault}
-use Rattle.catalogue.specs.Faults.{fault_of_table, first_of, first_row_fault, unless_fault}
-use Rattle.catalogue.specs.Rows.{RowData}
+use Rattle.catalogue_rows.specs.declared.faults.Code.{Code}
+use Rattle.catalogue_rows.specs.declared.faults.Code.TheVariants.{UnknownName, UnknownKind, RepeatedLimit, TooManyLines}
+use Rattle.catalogue_rows.specs.declared.faults.FileName.TheVariants.{Limits}
+use Rattle.catalogue_rows.specs.declared.faults.InputFault.{InputFault}
+use Rattle.catalogue_rows.specs.Names.{place_in}
+use Rattle.catalogue_rows.specs.Cells.{text_of, written_number, number_fault}
+use Rattle.catalogue_rows.specs.Faults.{fault_of_table, first_of, first_row_fault, unless_fault}
+use Rattle.catalogue_rows.specs.Places.{product_named}
+use Rattle.catalogue_rows.specs.Rows.{RowData}
 
 -- The names of the columns. All are needed.
 abbrev pub limit_columns : List (List ℕ)
@@ -40,15 +41,12 @@ kind_named text =
 abbrev pub kind_of_row : TableData → ℕ → Option LimitKind
 kind_of_row table k = kind_named (text_of table k kind_column)
 
--- The number of a category, of a ladder, and of a product in catalogue order from 0, by its name.
+-- The number of a category and of a ladder, by its name.
 abbrev pub category_named : List RowData → List ℕ → Option ℕ
 category_named rows text = option_map (λ k. k + 1) (place_in (map (λ row. row.category) rows) text)
 
 abbrev pub ladder_named : List RowData → List ℕ → Option ℕ
 ladder_named rows text = option_map (λ k. k + 1) (place_in (map (λ row. row.ladder) rows) text)
-
-abbrev pub product_named : List RowData → List ℕ → Option ℕ
-product_named rows text = position (bytes_eq text) (map (λ row. row.name) rows)
 
 -- What the first and the second field name, where the kind uses them.
 abbrev pub first_named : List RowData → LimitKind → List ℕ → Option ℕ

@@ -3,7 +3,7 @@ use Rattle.std.specs.Prelude.{◌≡◌, ◌≢◌, ℕ, ◌+◌, ◌<◌, ◌�
 use Rattle.offer_model.specs.declared.ranges.TheConstants.{MOST_AMOUNT, MOST_SEGMENTS}
 use Rattle.table_reader.specs.Tables.{TableData, is_among}
 use Rattle.catalogue.specs.declared.segment_rows.SeenSegments.{SeenSegments}
-use Rattle.catalogue.specs.Rows.{RowData}
+use Rattle.catalogue_rows.specs.Rows.{RowData}
 use Rattle.catalogue.specs.Drafts.{DraftData}
 use Rattle.catalogue.specs.SegmentTables.{segment_text, row_size, row_weight, heads_before, names_before, sizes_before, attractions_before}
 

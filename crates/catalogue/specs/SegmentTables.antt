@@ -9,14 +9,15 @@ use Rattle.table_reader.specs.Records.{records_of}
 use Rattle.table_reader.specs.Tables.{TableData, is_among}
 use Rattle.table_reader.specs.TableFaults.{table_outcome}
 use Rattle.catalogue.specs.Columns.{segment_column, product_column, size_column, weight_column}
-use Rattle.catalogue.specs.declared.faults.Code.{Code}
-use Rattle.catalogue.specs.declared.faults.Code.TheVariants.{RepeatedName, TooManyLines, SizesTooGreat}
-use Rattle.catalogue.specs.declared.faults.FileName.TheVariants.{Segments}
-use Rattle.catalogue.specs.declared.faults.InputFault.{InputFault}
-use Rattle.catalogue.specs.Cells.{text_of, written_number, number_fault, name_fault}
-use Rattle.catalogue.specs.Faults.{fault_of_table, first_of, first_row_fault, unless_fault}
-use Rattle.catalogue.specs.LimitTables.{product_named, named_fault}
-use Rattle.catalogue.specs.Rows.{RowData}
+use Rattle.catalogue_rows.specs.declared.faults.Code.{Code}
+use Rattle.catalogue_rows.specs.declared.faults.Code.TheVariants.{RepeatedName, TooManyLines, SizesTooGreat}
+use Rattle.catalogue_rows.specs.declared.faults.FileName.TheVariants.{Segments}
+use Rattle.catalogue_rows.specs.declared.faults.InputFault.{InputFault}
+use Rattle.catalogue_rows.specs.Cells.{text_of, written_number, number_fault, name_fault}
+use Rattle.catalogue_rows.specs.Faults.{fault_of_table, first_of, first_row_fault, unless_fault}
+use Rattle.catalogue_rows.specs.Places.{product_named}
+use Rattle.catalogue.specs.LimitTables.{named_fault}
+use Rattle.catalogue_rows.specs.Rows.{RowData}
 
 -- A segment and its name.
 pub record NamedSegment : Type 0 where

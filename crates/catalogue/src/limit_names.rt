@@ -2,10 +2,11 @@
 
 ghost use Rattle.std.specs.Prelude.{◌≡◌, position};
 ghost use Rattle.std.specs.Str.{bytes_eq};
-ghost use Rattle.catalogue.specs.Rows.{HasNumbers};
-ghost use Rattle.catalogue.specs.LimitTables.{category_named, ladder_named, product_named};
+ghost use Rattle.catalogue_rows.specs.Rows.{HasNumbers};
+ghost use Rattle.catalogue_rows.specs.Places.{product_named};
+ghost use Rattle.catalogue.specs.LimitTables.{category_named, ladder_named};
 
-use crate::catalogue::Row;
+use catalogue_rows::Row;
 
 /// The first row of this name.
 fn first_of_name(rows: &[Row], text: &[u8]) -> Option<usize>

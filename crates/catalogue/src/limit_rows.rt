@@ -3,15 +3,13 @@ ghost use Rattle.std.specs.Prelude.{◌≡◌, ℕ, ◌<◌, ◌&&◌, not, leng
 ghost use Rattle.std.specs.List.{list_any};
 ghost use Rattle.offer_model.specs.declared.ranges.TheConstants.{MOST_REQUIRES};
 ghost use Rattle.offer_model.specs.Validity.{is_requires};
-ghost use Rattle.catalogue.specs.Rows.{HasNumbers};
+ghost use Rattle.catalogue_rows.specs.Rows.{HasNumbers};
 ghost use Rattle.catalogue.specs.LimitTables.{limit_by, limit_under, stated_limit, limits_before, repeats, fields_fault, limit_fault};
 
-use crate::catalogue::Row;
-use crate::cells::{cell, parse_number};
-use crate::faults::Code;
 use crate::limit_columns::{FIRST, KIND, LIMIT_COLUMNS, NUMBER, SECOND};
 use crate::limit_kinds::{LimitKind, kind_named};
 use crate::limit_names::{category_named, ladder_named, product_named};
+use catalogue_rows::{Code, Row, cell, parse_number};
 use offer_model::{Limit, Limits, MOST_COUNT, MOST_LIMITS, MOST_REQUIRES};
 use table_reader::Table;
 

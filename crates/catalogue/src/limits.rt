@@ -2,19 +2,17 @@
 ghost use Rattle.std.specs.Prelude.{◌≡◌, ℕ, ◌≤◌, List, length, Ok, Err, Some, None, IfOk, IfErr, OnOk};
 ghost use Rattle.offer_model.specs.declared.products.ModelName.{ModelName};
 ghost use Rattle.offer_model.specs.Validity.{HasLimits, is_requires};
-ghost use Rattle.catalogue.specs.declared.faults.FileName.TheVariants as file;
-ghost use Rattle.catalogue.specs.Sizes.{most_table};
+ghost use Rattle.catalogue_rows.specs.declared.faults.FileName.TheVariants as file;
+ghost use Rattle.catalogue_rows.specs.Sizes.{most_table};
 ghost use Rattle.catalogue.specs.CatalogueProblems.{problem_data_of};
-ghost use Rattle.catalogue.specs.Faults.{OnFault, first_row_fault};
-ghost use Rattle.catalogue.specs.Rows.{HasNumbers};
+ghost use Rattle.catalogue_rows.specs.Faults.{OnFault, first_row_fault};
+ghost use Rattle.catalogue_rows.specs.Rows.{HasNumbers};
 ghost use Rattle.catalogue.specs.SegmentTables.{NamedSegment};
 ghost use Rattle.catalogue.specs.LimitTables.{limit_fault, limits_before, limits_outcome};
 
-use crate::catalogue::{Catalogue, Row};
-use crate::faults::{FileName, InputFault};
 use crate::limit_columns::{COLUMNS, LIMIT_COLUMNS};
 use crate::limit_rows::read_limit;
-use crate::table_faults::fault_of_table;
+use catalogue_rows::{Catalogue, FileName, InputFault, Row, fault_of_table};
 use offer_model::{Limit, Limits, MOST_LIMITS};
 use std::alloc::Global;
 use table_reader::{Table, read_table};

@@ -1,11 +1,11 @@
 //! The problem that a catalogue and its limits are.
 ghost use Rattle.std.specs.Prelude.{◌≡◌, ◌≢◌, ◌<◌, [], ◌∷◌, length, map, IfOk};
 ghost use Rattle.offer_model.specs.Validity.{IsPositiveAmount, IsRatioModel, HasLimits};
-ghost use Rattle.catalogue.specs.CatalogueProblems.{shadow_under, segment_of, segments_under, problem_data_of, KeepsShadows, FitSegments};
-ghost use Rattle.catalogue.specs.Rows.{row_at, IsCatalogue};
+ghost use Rattle.catalogue.specs.CatalogueProblems.{shadow_under, segment_of, segments_under, problem_data_of, FitSegments};
+ghost use Rattle.catalogue_rows.specs.Rows.{KeepsShadows, row_at, IsCatalogue};
 
-use crate::catalogue::Catalogue;
 use crate::segment_table::SegmentTable;
+use catalogue_rows::Catalogue;
 use offer_model::{Limits, ModelName, NoMemory, Numbers, Problem, Products, Segment, Segments};
 use std::alloc::Global;
 

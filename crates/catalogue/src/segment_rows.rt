@@ -4,20 +4,20 @@ ghost use Rattle.std.specs.Prelude.{◌≡◌, ℕ, ◌<◌, ◌≤◌, ◌+◌,
 ghost use Rattle.offer_model.specs.declared.ranges.TheConstants.{MOST_AMOUNT, MOST_SEGMENTS};
 ghost use Rattle.offer_model.specs.Validity.{IsPositiveAmount};
 ghost use Rattle.table_reader.specs.Tables.{TableData};
-ghost use Rattle.catalogue.specs.declared.faults.FileName.TheVariants as file;
-ghost use Rattle.catalogue.specs.declared.faults.InputFault.TheVariants.{Fault};
-ghost use Rattle.catalogue.specs.Faults.{OnFault, first_of};
-ghost use Rattle.catalogue.specs.LimitTables.{product_named, named_fault};
-ghost use Rattle.catalogue.specs.Rows.{RowData, IsCatalogue};
+ghost use Rattle.catalogue_rows.specs.declared.faults.FileName.TheVariants as file;
+ghost use Rattle.catalogue_rows.specs.declared.faults.InputFault.TheVariants.{Fault};
+ghost use Rattle.catalogue_rows.specs.Faults.{OnFault, first_of};
+ghost use Rattle.catalogue_rows.specs.Places.{product_named};
+ghost use Rattle.catalogue.specs.LimitTables.{named_fault};
+ghost use Rattle.catalogue_rows.specs.Rows.{RowData, IsCatalogue};
 ghost use Rattle.catalogue.specs.SegmentTables.{segment_text, product_text, row_size, row_weight, is_head, heads_before, names_before, sizes_before, segment_named, head_fault, pair_fault, segment_fault};
 ghost use Rattle.catalogue.specs.SegmentDrafts.{HasSeenSegments};
 
-use crate::cells::{cell, parse_name, parse_number};
-use crate::faults::{Code, FileName, InputFault};
-use crate::name_set::NameSet;
-use crate::product_places::ProductPlaces;
 use crate::segment_columns::{PRODUCT, SEGMENT, SEGMENT_COLUMNS, SIZE, WEIGHT};
 use crate::segment_draft::SegmentDraft;
+use catalogue_rows::{
+    Code, FileName, InputFault, NameSet, ProductPlaces, cell, parse_name, parse_number,
+};
 use offer_model::{MOST_AMOUNT, MOST_SEGMENTS};
 use std::alloc::Global;
 use table_reader::Table;

@@ -1,22 +1,19 @@
 //! Segments files: from bytes to the segments of a mixed model over a catalogue, or to the first fault.
 ghost use Rattle.std.specs.Prelude.{◌≡◌, ◌≤◌, length, map, All, Ok, Err, IfOk, IfErr, OnOk, Some, None};
 ghost use Rattle.offer_model.specs.Validity.{IsPositiveAmount, IsSegment};
-ghost use Rattle.catalogue.specs.declared.faults.FileName.TheVariants as file;
-ghost use Rattle.catalogue.specs.Sizes.{most_table};
+ghost use Rattle.catalogue_rows.specs.declared.faults.FileName.TheVariants as file;
+ghost use Rattle.catalogue_rows.specs.Sizes.{most_table};
 ghost use Rattle.catalogue.specs.CatalogueProblems.{FitSegments};
 ghost use Rattle.catalogue.specs.Drafts.{segment_drafted};
-ghost use Rattle.catalogue.specs.Faults.{OnFault, first_row_fault};
-ghost use Rattle.catalogue.specs.Rows.{IsCatalogue};
+ghost use Rattle.catalogue_rows.specs.Faults.{OnFault, first_row_fault};
+ghost use Rattle.catalogue_rows.specs.Rows.{IsCatalogue};
 ghost use Rattle.catalogue.specs.SegmentTables.{segment_fault, segments_of, segments_outcome};
 
-use crate::catalogue::{Catalogue, Row};
-use crate::faults::{FileName, InputFault};
-use crate::product_places::ProductPlaces;
 use crate::segment_columns::{COLUMNS, SEGMENT_COLUMNS};
 use crate::segment_draft::SegmentDraft;
 use crate::segment_rows::{SeenSegments, read_row};
 use crate::segment_table::{SegmentRow, SegmentTable};
-use crate::table_faults::fault_of_table;
+use catalogue_rows::{Catalogue, FileName, InputFault, ProductPlaces, Row, fault_of_table};
 use offer_model::NoMemory;
 use std::alloc::Global;
 use table_reader::{Table, read_table};

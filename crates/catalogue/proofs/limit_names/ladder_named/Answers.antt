@@ -1,6 +1,6 @@
 use Rattle.std.proofs.Common.{◌≡◌, ◌∙◌, sym, ap, None, Some, rules}
 use Rattle.std.proofs.lemmas.List.{get_or_default}
-use Rattle.catalogue.specs.Rows.{RowData, no_row}
+use Rattle.catalogue_rows.specs.Rows.{RowData, no_row}
 use Rattle.catalogue.proofs.LimitNameLemmas.{no_number, number_of_none, number_of_first}
 use Rattle.catalogue.proofs.limit_names.ladder_named.Goals as goal
 

@@ -1,8 +1,8 @@
 use Rattle.std.proofs.Common.{◌≡◌, ◌∙◌, refl, sym, ◌<◌, ◌++◌, ◌∷◌, [], length, None, below_more, arith}
 use Rattle.offer_model.specs.declared.ranges.TheConstants.{MOST_LIMITS}
-use Rattle.catalogue.specs.declared.faults.FileName.TheVariants.{Limits}
+use Rattle.catalogue_rows.specs.declared.faults.FileName.TheVariants.{Limits}
 use Rattle.catalogue.specs.LimitTables.{limit_fault}
-use Rattle.catalogue.proofs.FaultLemmas.{no_row_fault, first_row_fault_at}
+use Rattle.catalogue_rows.proofs.FaultLemmas.{no_row_fault, first_row_fault_at}
 use Rattle.catalogue.proofs.LimitLemmas.{below_most, limits_more, requires_more}
 use Rattle.catalogue.proofs.limits.read_rows.Goals as goal
 use Rattle.catalogue.proofs.limits.read_rows.Goals.{then-is_requires, else-is_requires}

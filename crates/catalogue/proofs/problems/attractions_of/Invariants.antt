@@ -1,5 +1,5 @@
 use Rattle.std.proofs.Common.{◌≡◌, ◌+◌, ◌≤◌, length, map, take}
-use Rattle.catalogue.specs.Rows.{RowData}
+use Rattle.catalogue_rows.specs.Rows.{RowData}
 use Rattle.catalogue.proofs.problems.attractions_of.Given as goal
 
 abbrev pub invariant-loop-i : goal.invariant-loop-i

@@ -1,7 +1,7 @@
 use Rattle.std.proofs.Common.{◌≡◌, ◌∙◌, ◌+◌, ◌*◌, sym, ap, true, false, not, nat_lt, nat_le, length, arith}
 use Rattle.offer_model.specs.declared.ranges.TheConstants.{MOST_AMOUNT, MOST_SEGMENTS}
 use Rattle.table_reader.specs.Tables.{is_among}
-use Rattle.catalogue.specs.Cells.{number_fault, name_fault, written_number}
+use Rattle.catalogue_rows.specs.Cells.{number_fault, name_fault, written_number}
 use Rattle.catalogue.specs.SegmentTables.{row_size, heads_before}
 use Rattle.catalogue.proofs.SegmentStepLemmas.{head_judged}
 use Rattle.catalogue.proofs.segment_rows.read_head.Goals as goal

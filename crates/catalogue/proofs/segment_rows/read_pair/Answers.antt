@@ -1,10 +1,11 @@
 use Rattle.std.proofs.Common.{◌∙◌, sym, ap, true, false, get_or}
 use Rattle.std.proofs.lemmas.Result.{err_from_is_err_and}
 use Rattle.offer_model.specs.declared.ranges.TheConstants.{MOST_AMOUNT}
-use Rattle.catalogue.specs.Cells.{number_fault}
-use Rattle.catalogue.specs.LimitTables.{product_named, named_fault}
+use Rattle.catalogue_rows.specs.Cells.{number_fault}
+use Rattle.catalogue_rows.specs.Places.{product_named}
+use Rattle.catalogue.specs.LimitTables.{named_fault}
 use Rattle.catalogue.specs.SegmentTables.{product_text, segment_named}
-use Rattle.catalogue.proofs.FaultLemmas.{first_of_two}
+use Rattle.catalogue_rows.proofs.FaultLemmas.{first_of_two}
 use Rattle.catalogue.proofs.SegmentPairLemmas.{place_inside, judged_there}
 use Rattle.catalogue.proofs.segment_rows.read_pair.Goals as goal
 

@@ -2,14 +2,14 @@ use Rattle.std.proofs.Common.{◌≡◌, ◌∙◌, ◌+◌, ◌≤◌, sym, ap,
 use Rattle.std.proofs.lemmas.Result.{err_from_is_err_and}
 use Rattle.offer_model.specs.declared.ranges.TheConstants.{MOST_AMOUNT, MOST_SEGMENTS}
 use Rattle.offer_model.specs.Validity.{IsSegment}
-use Rattle.catalogue.specs.declared.faults.FileName.TheVariants.{Segments}
-use Rattle.catalogue.specs.declared.faults.InputFault.TheVariants.{Fault}
-use Rattle.catalogue.specs.Faults.{OnFault}
+use Rattle.catalogue_rows.specs.declared.faults.FileName.TheVariants.{Segments}
+use Rattle.catalogue_rows.specs.declared.faults.InputFault.TheVariants.{Fault}
+use Rattle.catalogue_rows.specs.Faults.{OnFault}
 use Rattle.catalogue.specs.CatalogueProblems.{FitSegments}
 use Rattle.catalogue.specs.Drafts.{segment_drafted}
 use Rattle.catalogue.specs.SegmentTables.{NamedSegment, segment_fault, segments_of, heads_before, sizes_before}
 use Rattle.catalogue.specs.SegmentDrafts.{drafts_before, HasSeenSegments}
-use Rattle.catalogue.proofs.FaultLemmas.{no_row_fault, first_row_fault_of}
+use Rattle.catalogue_rows.proofs.FaultLemmas.{no_row_fault, first_row_fault_of}
 use Rattle.catalogue.proofs.SegmentLemmas.{all_drafted, segments_fit}
 use Rattle.catalogue.proofs.segments.read_rows.Goals as goal
 

@@ -1,0 +1,9 @@
+pub mod ConstantLemmas
+mod PrintedTextLemmas
+pub mod ReadBackLemmas
+pub mod CellLemmas
+pub mod FaultLemmas
+pub mod LentNameLemmas
+pub mod NameLemmas
+pub mod OutcomeLemmas
+pub mod ProductLemmas

@@ -1,0 +1,11 @@
+pub mod Sizes
+pub mod Columns
+pub mod Names
+pub mod Rows
+pub mod Cells
+pub mod Faults
+pub mod ProductTables
+pub mod ProductCells
+pub mod SeenNames
+pub mod PrintedProducts
+pub mod Places

@@ -1,0 +1,28 @@
+//! The rows of a catalogue, their names and their cells: from the bytes of a products file to rows, or to the first fault, and back.
+#![tactic(auto)]
+
+mod catalogue;
+mod cells;
+mod faults;
+mod name_set;
+mod names;
+mod printing;
+mod product_cells;
+mod product_columns;
+mod product_places;
+mod product_rows;
+mod products;
+mod table_faults;
+
+pub use catalogue::{Catalogue, Row};
+pub use cells::{cell, parse_name, parse_number};
+pub use faults::{Code, FileName, InputFault};
+pub use name_set::NameSet;
+pub use names::MOST_NAME;
+pub use printing::print_products;
+pub use product_columns::{
+    ARRIVAL, ATTRACTION, CATEGORY, GRADE, LADDER, MARGIN, NAME, PRICE, SHADOW, SPACE,
+};
+pub use product_places::ProductPlaces;
+pub use products::{MOST_TABLE, read_products};
+pub use table_faults::fault_of_table;
