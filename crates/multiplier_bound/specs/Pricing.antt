@@ -5,14 +5,7 @@ use Rattle.offer_model.specs.Assortments.{sum_below}
 use Rattle.offer_model.specs.Problems.{ProblemData, product_count}
 use Rattle.offer_model.specs.Prices.{Prices}
 use Rattle.offer_model.specs.LeafBounds.{taken_by, added_by, allowed_by, priced_limit_at}
-use Rattle.linear_weights.specs.Weights.{WeightsData, weight_at, prices_of}
-
--- The names of a list of weights, where it has the prices that multipliers move.
-abbrev pub PriceListData : Type 0
-PriceListData = WeightsData
-
-abbrev pub prices_in : WeightsData → Prices
-prices_in list = prices_of list
+use Rattle.linear_weights.specs.Weights.{WeightsData, weight_at}
 
 -- Each price and the constant have moved by the limit's multiplier u.
 pub record IsMoved (p : ProblemData) (limit : Limit) (u : ℕ) (before : Prices) (after : WeightsData) : Type 0 where

@@ -6,5 +6,4 @@ mod improving;
 mod multipliers;
 
 pub use descent::Descent;
-pub use linear_weights::Weights as PriceList;
 pub use multipliers::{Multipliers, number_at};

@@ -1,9 +1,4 @@
 pub mod ListLemmas
-pub mod LadderListLemmas
-pub mod LadderLemmas
-pub mod SpaceLemmas
-pub mod KeptLemmas
 pub mod LeafLemmas
 pub mod HeaderLemmas
 pub mod AcceptedLemmas
-pub mod SegmentLemmas

@@ -1,12 +1,10 @@
--- Lists that a loop writes or reads item by item.
-use Rattle.std.proofs.Common.{◌≡◌, ℕ, suc, zero, Bool, List, [], ◌∷◌, ◌++◌, length, take, drop, get_or, set, Some, refl, sym, ◌∙◌, ap, arith, ◌<◌, ◌+◌}
+-- Digits that a loop writes item by item.
+use Rattle.std.proofs.Common.{◌≡◌, ℕ, suc, zero, Bool, List, [], ◌∷◌, ◌++◌, length, take, get_or, set, Some, refl, sym, ◌∙◌, ap, arith, ◌<◌, ◌+◌}
 use Rattle.std.specs.Prelude.{slice_get, nat_eq}
 use Rattle.std.proofs.lemmas.Option.{slice_get_within, get_or_from_slice_get}
-use Rattle.std.proofs.lemmas.List.{take_more, take_more_set, map-append, drop_more}
+use Rattle.std.proofs.lemmas.List.{take_more, take_more_set, map-append}
 use Rattle.proof_lines.specs.Lines.{AreDigits}
 use Rattle.proof_lines.specs.Acceptance.{digit_of, digits_of}
-
--- ---- Digits.
 
 digit_back : (d : ℕ) → d < 2 → digit_of (nat_eq d 1) ≡ d
 digit_back zero l = refl
@@ -28,16 +26,3 @@ written_more x new ds i d each a got is was =
     let low : d < 2 = omega arith in
     ap (λ z. digits_of (take (i + 1) z)) is ∙ ap digits_of (take_more_set x i (nat_eq d 1) (omega arith)) ∙ map-append digit_of (take i x) (nat_eq d 1 ∷ [])
     ∙ ap (λ z. z ++ digit_of (nat_eq d 1) ∷ []) was ∙ ap (λ z. take i ds ++ z ∷ []) (digit_back d low ∙ sym here) ∙ sym (take_more ds i 0 inside)
-
--- ---- From a place on.
-
--- A list from a place on.
-pub drop_at : {X : Type 0} (xs : List X) (k : ℕ) (x : X) → slice_get xs k ≡ Some x → drop k xs ≡ x ∷ drop (k + 1) xs
-drop_at xs k x got =
-    let inside = slice_get_within xs k x got in
-    let here = get_or_from_slice_get xs k x x got in
-    drop_more xs k x inside ∙ ap (λ z. z ∷ drop (k + 1) xs) here
-
--- The item of an equal list.
-pub item_is : {X : Type 0} (xs ys : List X) (k : ℕ) (x d : X) → xs ≡ ys → slice_get xs k ≡ Some x → get_or ys k d ≡ x
-item_is xs ys k x d e got = ap (λ z. get_or z k d) (sym e) ∙ get_or_from_slice_get xs k x d got

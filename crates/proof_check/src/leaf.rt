@@ -8,9 +8,7 @@ ghost use Rattle.linear_step.specs.Weights.{prices_of, AreWeights};
 ghost use Rattle.proof_check.specs.Leaves.{HasRoom, ClosesBy};
 ghost use Rattle.proof_check.specs.Judging.{AreOwnWeights};
 
-use crate::kept_table::{KeptTable, settled_first};
-use crate::potentials::Potentials;
-use crate::shelf::ShelfRow;
+use leaf_bounds::{KeptTable, Potentials, ShelfRow, settled_first};
 use limit_rules::{clashes, comes_after};
 use linear_step::Weights;
 use multiplier_bound::Multipliers;

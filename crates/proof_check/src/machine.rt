@@ -43,10 +43,10 @@ impl Machine {
         ensures head { IfOk result (λ m. m.head ≡ at_start) }
         ensures tree { IfOk result (λ m. m.tree ≡ whole_tree m.problem) }
     {
-        let leaves = ProblemLeaves::new(alloc, p)?;
-        let tree = TreeProgress::new(alloc, leaves.products())?;
+        let tree = TreeProgress::new(alloc, p.products().len())?;
         let mut numbers = Wide::new(alloc);
         numbers.reserve(MOST_LINE + 1)?;
+        let leaves = ProblemLeaves::new(alloc, p)?;
         Ok(Machine {
             head: Head::Start,
             leaves,

@@ -53,10 +53,10 @@ impl RatioLeaves {
         requires { IsRatioModel p.now.model }
         ensures { IfOk result (λ s. s.problem ≡ p.now) }
     {
-        let problem = p.copy(alloc)?;
-        let n = problem.products().len();
+        let n = p.products().len();
         let set = Assortment::empty(alloc, n)?;
         let mut weights = Weights::reserve(alloc, n)?;
+        let problem = p.copy(alloc)?;
         weigh(&problem, &set, &mut weights);
         let room = LeafRoom::new(alloc, &problem)?;
         Ok(RatioLeaves {

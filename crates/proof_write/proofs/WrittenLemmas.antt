@@ -1,6 +1,7 @@
 -- What writers write is a certificate that they may write.
 use Rattle.std.proofs.Common.{◌≡◌, ℕ, ◌≤◌, Bool, true, false, List, [], ◌∷◌, ◌++◌, length, refl, sym, arith, subst, inl, inr, Ok, Err, Result}
-use Rattle.std.specs.Prelude.{IsTrue}
+use Rattle.std.specs.Prelude.{IsTrue, OnOk, IsErrOf}
+use Rattle.offer_io.specs.Causes.{Rose}
 use Rattle.offer_io.specs.Stores.{StoreView, Extends}
 use Rattle.offer_model.specs.declared.ranges.TheConstants.{MOST_PRODUCTS}
 use Rattle.offer_model.specs.declared.products.ModelName.{ModelName}
@@ -23,7 +24,9 @@ use Rattle.proof_tree.specs.Pens.{lines_data}
 use Rattle.proof_tree.specs.Puts.{Adds, Puts}
 use Rattle.proof_tree.specs.Trees.{tree_texts, end_text}
 use Rattle.proof_tree.proofs.LineLeafLemmas.{whole_text}
-use Rattle.proof_write.specs.HeaderLines.{header_lines, IsHeader, IsValueLine}
+use Rattle.proof_write.specs.declared.faults.ProofFault.{ProofFault}
+use Rattle.proof_write.specs.declared.faults.ProofFault.TheVariants.{WriteFault, NoMemory}
+use Rattle.proof_write.specs.HeaderLines.{header_lines, IsHeader}
 use Rattle.proof_write.specs.Outputs.{HasWritten, HasWrittenPart}
 use Rattle.proof_write.proofs.LineLemmas.{set_is_line}
 
@@ -36,11 +39,11 @@ pub record IsClaimed (p : ProblemData) (x : List Bool) : Type 0 where
   pub line : IsLine S.Value (value_numbers p x)
 
 -- A problem's best assortment and its value line.
-pub claimed : (p : ProblemData) (x : List Bool) (l : LineData) → IsProblem p → IsBest p x → IsValueLine p x l → IsClaimed p x
-claimed p x l valid best value = record {
+pub claimed : (p : ProblemData) (x : List Bool) → IsProblem p → IsBest p x → IsLine S.Value (value_numbers p x) → IsClaimed p x
+claimed p x valid best value = record {
   best = best;
   few = (let same = best.feasible.0 in let most = valid.few in omega arith);
-  line = value.grammar;
+  line = value;
 }
 
 -- The lines of a certificate.
@@ -115,3 +118,31 @@ proof_unready p old new e w steady = never (w.2.ready steady)
   where
     never : false ≡ true → ⊥
     never h = cc
+
+-- ---- What it answers in all.
+
+-- The same bytes were put, where the answer has another type of failure.
+pub puts_whole : {T E F : Type 0} (old new : StoreView) (bytes : List ℕ) (t : T) → Puts {T = T} {E = E} old bytes (Ok t) new
+    → Puts {T = T} {E = F} old bytes (Ok t) new
+puts_whole old new bytes t h = record { whole = h.whole; part = tt; writing = h.writing; cause = tt; ready = λ steady. refl }
+
+pub puts_part : {T E F : Type 0} (old new : StoreView) (bytes : List ℕ) (e : E) (f : F) → Puts {T = T} {E = E} old bytes (Err e) new
+    → Puts {T = T} {E = F} old bytes (Err f) new
+puts_part old new bytes e f h = record { whole = tt; part = h.part; writing = h.writing; cause = h.cause; ready = h.ready }
+
+-- What the answer of a writer says of the output.
+pub record Answers {T : Type 0} (p : ProblemData) (old : StoreView) (result : Result T ProofFault) (new : StoreView) : Type 0 where
+  pub written : OnOk result (HasWritten p old new)
+  pub part : IsErrOf result WriteFault → HasWrittenPart p old new
+  pub cause : IsErrOf result WriteFault → Rose old.faults new.faults
+  pub ready : IsTrue old.steady → IsErrOf result WriteFault → ⊥
+
+pub answers : {T : Type 0} (p : ProblemData) (old : StoreView) (result : Result T ProofFault) (new : StoreView)
+    → ((IsErrOf result NoMemory → ⊥) → WritesProof p old result new) → Answers p old result new
+answers p old (Ok t) new writes =
+    let own = writes (λ e. cc) in
+    record { written = proof_whole p old new t own; part = λ e. cc; cause = λ e. cc; ready = λ steady e. cc }
+answers p old (Err WriteFault) new writes =
+    let own = writes (λ e. cc) in
+    record { written = tt; part = λ e. proof_part p old new WriteFault own; cause = λ e. own.2.cause; ready = λ steady e. proof_unready p old new WriteFault own steady }
+answers p old (Err NoMemory) new writes = record { written = tt; part = λ e. cc; cause = λ e. cc; ready = λ steady e. cc }

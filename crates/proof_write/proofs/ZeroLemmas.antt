@@ -22,7 +22,7 @@ use Rattle.offer_model.specs.Prices.{Prices, worth_of, most_of, greatest_worth}
 use Rattle.offer_model.specs.LeafBounds.{is_priced, priced_limits, priced_limit_at, taken_by, added_by, allowed_by, IsMultiplier, MultipliersFit, taken_off, added_to, allowed_in_all, relaxed, multipliers_bound}
 use Rattle.linear_step.specs.Closings.{number_bound}
 use Rattle.multiplier_bound.specs.Fits.{AreNumbers, AreFit, IsRelaxed}
-use Rattle.multiplier_bound.specs.Pricing.{PriceListData, prices_in}
+use Rattle.linear_weights.specs.Weights.{WeightsData, prices_of}
 use Rattle.offer_model.proofs.NodeLemmas.{offers-fill_of}
 use Rattle.multiplier_bound.proofs.PriceLemmas.{int_sum_same, greatest_same}
 use Rattle.multiplier_bound.proofs.RelaxLemmas.{kept_yes, kept_no}
@@ -166,14 +166,14 @@ zeros_close p x node r =
     (λ h. (under.0 h).1, λ h. under.1 (zeros_fit p, h))
 
 -- So does what a list of the prices under them gives.
-pub relaxed_close : (p : ProblemData) (x : List Bool) (node : List Mark) (list : PriceListData) (z : ℤ) → IsRatioModel p.model
-    → IsRelaxed p (zeros_of p) (own_prices p x) list → z ≡ greatest_worth p node (prices_in list)
+pub relaxed_close : (p : ProblemData) (x : List Bool) (node : List Mark) (list : WeightsData) (z : ℤ) → IsRatioModel p.model
+    → IsRelaxed p (zeros_of p) (own_prices p x) list → z ≡ greatest_worth p node (prices_of list)
     → Closes p x node S.Multipliers (zeros_of p) ↔ BoundCloses x node (Some z)
 relaxed_close p x node list z r h e =
-    let same = e ∙ greatest_same p node (prices_in list) (relaxed p (zeros_of p) (own_prices p x)) h.constant h.price in
+    let same = e ∙ greatest_same p node (prices_of list) (relaxed p (zeros_of p) (own_prices p x)) h.constant h.price in
     subst (λ w. Closes p x node S.Multipliers (zeros_of p) ↔ BoundCloses x node (Some w)) (sym same) (zeros_close p x node r)
 
 -- Prices under them, where both are known by an equation.
-pub relaxed_at : (p : ProblemData) (x : List Bool) (us : List ℕ) (at : Prices) (list : PriceListData) → us ≡ zeros_of p → at ≡ own_prices p x
+pub relaxed_at : (p : ProblemData) (x : List Bool) (us : List ℕ) (at : Prices) (list : WeightsData) → us ≡ zeros_of p → at ≡ own_prices p x
     → IsRelaxed p us at list → IsRelaxed p (zeros_of p) (own_prices p x) list
 relaxed_at p x us at list e own h = subst (λ vs. IsRelaxed p vs (own_prices p x) list) e (subst (λ t. IsRelaxed p us t list) own h)

@@ -5,7 +5,7 @@ use Rattle.offer_model.specs.LeafBounds.{priced_limits}
 use Rattle.offer_model.specs.Problems.{ProblemData}
 use Rattle.offer_model.specs.Validity.{IsProblem, IsRatioModel}
 use Rattle.multiplier_bound.specs.Fits.{IsRelaxed}
-use Rattle.multiplier_bound.specs.Pricing.{PriceListData}
+use Rattle.linear_weights.specs.Weights.{WeightsData}
 use Rattle.proof_lines.specs.declared.line.Line.{Line}
 use Rattle.proof_lines.specs.declared.line.Shape.TheVariants as S
 use Rattle.proof_lines.specs.Closing.{own_prices}
@@ -17,7 +17,7 @@ abbrev pub zeros_of : ProblemData → List ℕ
 zeros_of p = replicate (length (priced_limits p)) 0
 
 -- The two leaves, and the prices that multipliers of 0 make of those at the revenue of x.
-pub record IsZeroRule (p : ProblemData) (x : List Bool) (clash zeros : Line) (prices : PriceListData) : Type 0 where
+pub record IsZeroRule (p : ProblemData) (x : List Bool) (clash zeros : Line) (prices : WeightsData) : Type 0 where
   pub model : IsRatioModel p.model
   pub valid : IsProblem p
   pub best : IsBest p x

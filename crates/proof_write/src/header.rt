@@ -1,11 +1,11 @@
 //! The header of a certificate.
-ghost use Rattle.std.specs.Prelude.{◌≡◌, ◌<◌, ◌≤◌, [], ◌∷◌, length, All, IfOk};
+ghost use Rattle.std.specs.Prelude.{◌≡◌, ◌<◌, ◌≤◌, [], ◌∷◌, length, All, IfOk, OnOk};
 ghost use Rattle.offer_model.specs.declared.products.ModelName.TheVariants.{Mixed};
 ghost use Rattle.offer_model.specs.Problems.{product_count};
 ghost use Rattle.offer_model.specs.Ranges.{gain_bound, weight_bound};
 ghost use Rattle.offer_model.specs.Validity.{IsProblem, IsRatioModel};
 ghost use Rattle.offer_model.specs.Prices.{prices_at};
-ghost use Rattle.proof_lines.specs.Lines.{line};
+ghost use Rattle.proof_lines.specs.Lines.{line, IsLine};
 ghost use Rattle.proof_lines.specs.Closing.{own_prices};
 ghost use Rattle.proof_lines.specs.Acceptance.{digits_of, value_numbers};
 ghost use Rattle.proof_lines.specs.declared.line.Shape.TheVariants as Shapes;
@@ -54,7 +54,7 @@ fn set_line(alloc: Global, x: &Assortment) -> Result<Line, NoMemory>
 }
 
 /// The value line of an assortment under logit and generalised attraction: what it earns.
-pub(crate) fn ratio_line(alloc: Global, p: &Problem, x: &Assortment) -> Result<Line, NoMemory>
+fn ratio_line(alloc: Global, p: &Problem, x: &Assortment) -> Result<Line, NoMemory>
     requires model { IsRatioModel p.now.model }
     requires length { length x.now ≡ product_count p.now }
     ensures { IfOk result (λ l. IsValueLine p.now x.now (line_data l)) }
@@ -72,7 +72,7 @@ pub(crate) fn ratio_line(alloc: Global, p: &Problem, x: &Assortment) -> Result<L
 }
 
 /// The value line of an assortment under mixed logit: what it brings in all segments.
-pub(crate) fn units_line(alloc: Global, p: &Problem, x: &Assortment) -> Result<Line, NoMemory>
+fn units_line(alloc: Global, p: &Problem, x: &Assortment) -> Result<Line, NoMemory>
     requires model { p.now.model ≡ Mixed }
     requires length { length x.now ≡ product_count p.now }
     ensures { IfOk result (λ l. IsValueLine p.now x.now (line_data l)) }
@@ -88,12 +88,7 @@ pub(crate) fn units_line(alloc: Global, p: &Problem, x: &Assortment) -> Result<L
 }
 
 /// The lines of the header, with this value line.
-pub(crate) fn header_of(
-    alloc: Global,
-    p: &Problem,
-    x: &Assortment,
-    value: Line,
-) -> Result<Vec<Line>, NoMemory>
+fn header_of(alloc: Global, p: &Problem, x: &Assortment, value: Line) -> Result<Vec<Line>, NoMemory>
     requires length { length x.now ≡ product_count p.now }
     requires value { IsValueLine p.now x.now (line_data value) }
     ensures lines { IfOk result (λ lines. IsHeader p.now x.now lines.items) }
@@ -108,4 +103,38 @@ pub(crate) fn header_of(
     lines.push_reserved(set_line(alloc, x)?);
     lines.push_reserved(value);
     Ok(lines)
+}
+
+/// The lines of the header under logit and generalised attraction.
+pub(crate) fn ratio_header(
+    alloc: Global,
+    p: &Problem,
+    x: &Assortment,
+) -> Result<Vec<Line>, NoMemory>
+    requires model { IsRatioModel p.now.model }
+    requires length { length x.now ≡ product_count p.now }
+    ensures lines { IfOk result (λ lines. IsHeader p.now x.now lines.items) }
+    ensures writable { IfOk result (λ lines. All IsWritable lines.items) }
+    ensures value { OnOk result (IsLine Shapes.Value (value_numbers p.now x.now)) }
+    ensures valid { OnOk result (IsProblem p.now) }
+{
+    let value = ratio_line(alloc, p, x)?;
+    header_of(alloc, p, x, value)
+}
+
+/// The lines of the header under mixed logit.
+pub(crate) fn units_header(
+    alloc: Global,
+    p: &Problem,
+    x: &Assortment,
+) -> Result<Vec<Line>, NoMemory>
+    requires model { p.now.model ≡ Mixed }
+    requires length { length x.now ≡ product_count p.now }
+    ensures lines { IfOk result (λ lines. IsHeader p.now x.now lines.items) }
+    ensures writable { IfOk result (λ lines. All IsWritable lines.items) }
+    ensures value { OnOk result (IsLine Shapes.Value (value_numbers p.now x.now)) }
+    ensures valid { OnOk result (IsProblem p.now) }
+{
+    let value = units_line(alloc, p, x)?;
+    header_of(alloc, p, x, value)
 }

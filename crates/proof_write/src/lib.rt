@@ -6,6 +6,7 @@ mod header;
 mod leaves;
 mod mixed;
 mod mixed_rule;
+mod output;
 mod path_rule;
 mod ratio;
 mod search;

@@ -6,11 +6,11 @@ ghost use Rattle.offer_io.specs.Causes.{Rose};
 ghost use Rattle.proof_write.specs.Outputs.{HasWritten, HasWrittenPart};
 
 use crate::faults::ProofFault;
-use crate::header::{header_of, units_line};
+use crate::header::units_header;
 use crate::mixed_rule::MixedRule;
-use offer_io::{Failed, Store};
+use crate::output::put_proof;
+use offer_io::Store;
 use offer_model::{Assortment, Problem};
-use proof_tree::{Path, Pen, write_proof};
 use std::alloc::Global;
 
 /// Writes the certificate of the best assortment of a problem under mixed logit to the open output: the one text that is fixed.
@@ -37,13 +37,7 @@ pub fn write_mixed_proof<S: Store>(
         → Rose (S.view store.old).faults (S.view store.new).faults }
     ensures ready { IsTrue (S.view store.old).steady → ¬ IsErrOf result ProofFault.WriteFault }
 {
-    let value = units_line(alloc, p, x)?;
-    let header = header_of(alloc, p, x, value)?;
+    let header = units_header(alloc, p, x)?;
     let mut rule = MixedRule::new(alloc, p, x)?;
-    let mut path = Path::new(alloc, p.products().len())?;
-    let mut pen = Pen::new(alloc)?;
-    match write_proof(&header, &mut rule, &mut path, &mut pen, store) {
-        Ok(()) => Ok(()),
-        Err(Failed) => Err(ProofFault::WriteFault),
-    }
+    put_proof(alloc, &header, &mut rule, p.products().len(), store)
 }

@@ -9,13 +9,13 @@ ghost use Rattle.limit_rules.specs.declared.kind.Kind.TheVariants.{General};
 ghost use Rattle.proof_write.specs.Outputs.{HasWritten, HasWrittenPart};
 
 use crate::faults::ProofFault;
-use crate::header::{earned_by, header_of, ratio_line};
+use crate::header::{earned_by, ratio_header};
 use crate::leaves::{end_of_offered, leaves_of};
+use crate::output::put_proof;
 use crate::path_rule::PathRule;
 use linear_step::Closer;
-use offer_io::{Failed, Store};
+use offer_io::Store;
 use offer_model::{Assortment, Problem};
-use proof_tree::{Path, Pen, write_proof};
 use std::alloc::Global;
 
 /// Writes the certificate of the best assortment of a problem under logit or generalised attraction, with limits of one
@@ -47,18 +47,12 @@ pub fn write_ratio_proof<C: Closer, S: Store>(
     ensures fits { (q : ProblemData) → C.fits step.old q ↔ C.fits step.new q }
 {
     let earned = earned_by(p, x);
-    let value = ratio_line(alloc, p, x)?;
-    let header = header_of(alloc, p, x, value)?;
+    let header = ratio_header(alloc, p, x)?;
     let leaves = leaves_of(alloc, p, x, &earned, step)?;
     let mut rule = PathRule {
         best: x,
         leaves,
         end: end_of_offered(x),
     };
-    let mut path = Path::new(alloc, x.len())?;
-    let mut pen = Pen::new(alloc)?;
-    match write_proof(&header, &mut rule, &mut path, &mut pen, store) {
-        Ok(()) => Ok(()),
-        Err(Failed) => Err(ProofFault::WriteFault),
-    }
+    put_proof(alloc, &header, &mut rule, x.len(), store)
 }

@@ -8,11 +8,11 @@ ghost use Rattle.limit_rules.specs.declared.kind.Kind.TheVariants.{General};
 ghost use Rattle.proof_write.specs.Outputs.{HasWritten, HasWrittenPart};
 
 use crate::faults::ProofFault;
-use crate::header::{earned_by, header_of, ratio_line};
+use crate::header::{earned_by, ratio_header};
+use crate::output::put_proof;
 use crate::zero_rule::ZeroRule;
-use offer_io::{Failed, Store};
+use offer_io::Store;
 use offer_model::{Assortment, Problem};
-use proof_tree::{Path, Pen, write_proof};
 use std::alloc::Global;
 
 /// Writes the certificate of the best assortment of a problem under logit or generalised attraction, with limits of several
@@ -41,13 +41,7 @@ pub fn write_search_proof<S: Store>(
     ensures ready { IsTrue (S.view store.old).steady → ¬ IsErrOf result ProofFault.WriteFault }
 {
     let earned = earned_by(p, x);
-    let value = ratio_line(alloc, p, x)?;
-    let header = header_of(alloc, p, x, value)?;
+    let header = ratio_header(alloc, p, x)?;
     let mut rule = ZeroRule::new(alloc, p, x, &earned)?;
-    let mut path = Path::new(alloc, p.products().len())?;
-    let mut pen = Pen::new(alloc)?;
-    match write_proof(&header, &mut rule, &mut path, &mut pen, store) {
-        Ok(()) => Ok(()),
-        Err(Failed) => Err(ProofFault::WriteFault),
-    }
+    put_proof(alloc, &header, &mut rule, p.products().len(), store)
 }

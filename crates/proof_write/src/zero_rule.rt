@@ -16,7 +16,8 @@ ghost use Rattle.proof_write.specs.ZeroRules.{zeros_of};
 use crate::header::bare;
 use crate::leaves::weights_of;
 use limit_rules::{clashes, comes_after};
-use multiplier_bound::{Multipliers, PriceList};
+use linear_weights::Weights;
+use multiplier_bound::Multipliers;
 use offer_model::{Assortment, Bytes, Fraction, Limit, Mark, NoMemory, Node, Problem, Wide};
 use proof_lines::{Line, Shape, print_line};
 use proof_tree::TreeRule;
@@ -31,7 +32,7 @@ pub(crate) struct ZeroRule<'a> {
     best: &'a Assortment,
     clash: Line,
     zeros: Line,
-    prices: PriceList,
+    prices: Weights,
 }
 
 impl<'a> Model for ZeroRule<'a> {
@@ -111,7 +112,7 @@ impl<'a> ZeroRule<'a> {
         let n = problem.products().len();
         let weights = weights_of(alloc, problem, earned)?;
         let numbers = zeros_of(alloc, problem)?;
-        let mut prices = PriceList::new(alloc, n)?;
+        let mut prices = Weights::new(alloc, n)?;
         Multipliers::new(alloc, problem)?.relax(problem, &weights, &numbers, &mut prices);
         Ok(ZeroRule {
             problem,

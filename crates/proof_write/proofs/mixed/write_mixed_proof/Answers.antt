@@ -1,24 +1,28 @@
-use Rattle.std.proofs.Common.{◌∙◌, rules}
+use Rattle.std.proofs.Common.{rules}
 use Rattle.proof_write.proofs.SearchProofLemmas.{mixed_writes}
-use Rattle.proof_write.proofs.WrittenLemmas.{claimed, proof_whole, proof_part, proof_unready}
+use Rattle.proof_write.proofs.WrittenLemmas.{claimed, answers}
 use Rattle.proof_write.proofs.mixed.write_mixed_proof.Goals as goal
 
-pub returns-in-Ok-clause-written : goal.returns-in-Ok-clause-written
-returns-in-Ok-clause-written g c = proof_whole _ _ _ _ (mixed_writes c.args.p.now c.args.x.now c.deref.result.now _ _ _ c.in_ok-rule.rule c.in_ok-path.path.products
-    c.in_ok-rule.ensures.problem c.in_ok-rule.ensures.best (c.in_ok-path.ensures.products ∙ (search rules)) c.header_of.ensures.valid c.requires.model
-    (claimed c.args.p.now c.args.x.now _ c.header_of.ensures.valid c.requires.best c.in_ok-value.ensures) (rw c.deref.ensures.value c.in_ok-header.ensures.lines) c.in-Ok.ensures)
+pub returns-clause-written : goal.returns-clause-written
+returns-clause-written g c = (answers _ _ _ _ (λ fine. mixed_writes c.args.p.now c.args.x.now c.deref.result.now _ _ _ c.in_ok-rule.rule c.len.result
+    c.in_ok-rule.ensures.problem c.in_ok-rule.ensures.best (search rules) c.in_ok-header.ensures.valid c.requires.model
+    (claimed c.args.p.now c.args.x.now c.in_ok-header.ensures.valid c.requires.best c.in_ok-header.ensures.value) (rw c.deref.ensures.value c.in_ok-header.ensures.lines)
+    (c.put_proof.ensures.puts fine))).written
 
 pub returns-clause-part : goal.returns-clause-part
-returns-clause-part g c = λ failed. proof_part _ _ _ _ (mixed_writes c.args.p.now c.args.x.now c.deref.result.now _ _ _ c.in_ok-rule.rule c.in_ok-path.path.products
-    c.in_ok-rule.ensures.problem c.in_ok-rule.ensures.best (c.in_ok-path.ensures.products ∙ (search rules)) c.header_of.ensures.valid c.requires.model
-    (claimed c.args.p.now c.args.x.now _ c.header_of.ensures.valid c.requires.best c.in_ok-value.ensures) (rw c.deref.ensures.value c.in_ok-header.ensures.lines) c.in-Err.ensures)
+returns-clause-part g c = (answers _ _ _ _ (λ fine. mixed_writes c.args.p.now c.args.x.now c.deref.result.now _ _ _ c.in_ok-rule.rule c.len.result
+    c.in_ok-rule.ensures.problem c.in_ok-rule.ensures.best (search rules) c.in_ok-header.ensures.valid c.requires.model
+    (claimed c.args.p.now c.args.x.now c.in_ok-header.ensures.valid c.requires.best c.in_ok-header.ensures.value) (rw c.deref.ensures.value c.in_ok-header.ensures.lines)
+    (c.put_proof.ensures.puts fine))).part
 
 pub returns-clause-cause : goal.returns-clause-cause
-returns-clause-cause g c = λ failed. (mixed_writes c.args.p.now c.args.x.now c.deref.result.now _ _ _ c.in_ok-rule.rule c.in_ok-path.path.products
-    c.in_ok-rule.ensures.problem c.in_ok-rule.ensures.best (c.in_ok-path.ensures.products ∙ (search rules)) c.header_of.ensures.valid c.requires.model
-    (claimed c.args.p.now c.args.x.now _ c.header_of.ensures.valid c.requires.best c.in_ok-value.ensures) (rw c.deref.ensures.value c.in_ok-header.ensures.lines) c.in-Err.ensures).2.cause
+returns-clause-cause g c = (answers _ _ _ _ (λ fine. mixed_writes c.args.p.now c.args.x.now c.deref.result.now _ _ _ c.in_ok-rule.rule c.len.result
+    c.in_ok-rule.ensures.problem c.in_ok-rule.ensures.best (search rules) c.in_ok-header.ensures.valid c.requires.model
+    (claimed c.args.p.now c.args.x.now c.in_ok-header.ensures.valid c.requires.best c.in_ok-header.ensures.value) (rw c.deref.ensures.value c.in_ok-header.ensures.lines)
+    (c.put_proof.ensures.puts fine))).cause
 
 pub returns-clause-ready : goal.returns-clause-ready
-returns-clause-ready g c = λ steady failed. proof_unready _ _ _ _ (mixed_writes c.args.p.now c.args.x.now c.deref.result.now _ _ _ c.in_ok-rule.rule c.in_ok-path.path.products
-    c.in_ok-rule.ensures.problem c.in_ok-rule.ensures.best (c.in_ok-path.ensures.products ∙ (search rules)) c.header_of.ensures.valid c.requires.model
-    (claimed c.args.p.now c.args.x.now _ c.header_of.ensures.valid c.requires.best c.in_ok-value.ensures) (rw c.deref.ensures.value c.in_ok-header.ensures.lines) c.in-Err.ensures) steady
+returns-clause-ready g c = (answers _ _ _ _ (λ fine. mixed_writes c.args.p.now c.args.x.now c.deref.result.now _ _ _ c.in_ok-rule.rule c.len.result
+    c.in_ok-rule.ensures.problem c.in_ok-rule.ensures.best (search rules) c.in_ok-header.ensures.valid c.requires.model
+    (claimed c.args.p.now c.args.x.now c.in_ok-header.ensures.valid c.requires.best c.in_ok-header.ensures.value) (rw c.deref.ensures.value c.in_ok-header.ensures.lines)
+    (c.put_proof.ensures.puts fine))).ready

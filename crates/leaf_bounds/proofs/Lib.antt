@@ -1,0 +1,6 @@
+pub mod ListLemmas
+pub mod LadderListLemmas
+pub mod LadderLemmas
+pub mod SpaceLemmas
+pub mod KeptLemmas
+pub mod SegmentLemmas

@@ -1,0 +1,5 @@
+pub mod Potentials
+pub mod LadderLists
+pub mod Shelves
+pub mod Kept
+pub mod Segments

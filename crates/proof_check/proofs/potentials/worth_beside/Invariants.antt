@@ -1,7 +1,0 @@
-use Rattle.std.proofs.Common.{◌≡◌}
-use Rattle.linear_step.specs.Weights.{prices_of}
-use Rattle.proof_check.specs.Potentials.{worth_beside}
-use Rattle.proof_check.proofs.potentials.worth_beside.Given as goal
-
-abbrev pub invariant-loop-i : goal.invariant-loop-i
-invariant-loop-i l = l.sum ≡ worth_beside l.p l.node (prices_of l.weights) l.i

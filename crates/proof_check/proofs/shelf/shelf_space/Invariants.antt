@@ -1,6 +1,0 @@
-use Rattle.std.proofs.Common.{◌≡◌, drop}
-use Rattle.offer_model.specs.LeafBounds.{shelf_space}
-use Rattle.proof_check.proofs.shelf.shelf_space.Given as goal
-
-abbrev pub invariant-loop-k : goal.invariant-loop-k
-invariant-loop-k l = shelf_space l.limits.items ≡ shelf_space (drop l.k l.limits.items)
