@@ -1,5 +1,5 @@
 -- One turn loses no feasible assortment.
-use Rattle.std.proofs.Common.{◌≡◌, ◌⊎◌, ℕ, Bool, Option, Some, None, List, [], ◌∷◌, length, refl, sym, ◌∙◌, subst, inl, inr, ⊎_elim, arith}
+use Rattle.std.proofs.Common.{◌≡◌, ◌⊎◌, ℕ, Bool, Option, Some, None, List, [], ◌∷◌, length, refl, sym, ap, ◌∙◌, subst, inl, inr, ⊎_elim, arith}
 use Rattle.std.specs.Prelude.{ℤ, ◌<ℤ◌, ◌≤ℤ◌, slice_set}
 use Rattle.std.specs.List.{All}
 use Rattle.std.proofs.lemmas.Int.{ints}
@@ -10,7 +10,7 @@ use Rattle.offer_model.specs.Nodes.{Completes, fill_of}
 use Rattle.offer_model.proofs.TieLemmas.{tie}
 use Rattle.tree_search.specs.Goals.{Rules, IsLawful, IsOpenOf, IsBetter, IsFeasibleFor}
 use Rattle.tree_search.specs.Turns.{Walk, IsBeaten, IsDropped, IsOutcome, IsBestAfter, IsTaken, Turn, IsSound, least, HasBoundInRange}
-use Rattle.tree_search.specs.Progress.{CompletesSome, Covers, Matches, HasBy, Has, IsFeasibleBest, IsOwn, IsReached}
+use Rattle.tree_search.specs.Progress.{CompletesSome, Covers, Matches, HasBy, Has, Reaches, IsFeasibleBest, IsOwn, IsReached}
 use Rattle.tree_search.proofs.OrderLemmas.{before_total, fill_only, divided, better_trans}
 use Rattle.offer_model.proofs.NodeLemmas.{length-fill_of}
 
@@ -38,8 +38,8 @@ module _ (r : Rules) where
   seen_covers None seen node y s v l f = absurd (omega (arith, ints))
   seen_covers (Some b) seen node y s v l f = inr (inl (omega (arith, ints)))
 
-  -- The best after x is met covers x, and what the best covered.
-  met_covers : (old new : Option (List Bool)) (x : List Bool) → length x ≡ r.products → IsFeasibleBest r old → IsBestAfter r x old new → Covers r new x
+  -- The best after x is met covers x.
+  pub met_covers : (old new : Option (List Bool)) (x : List Bool) → length x ≡ r.products → IsFeasibleBest r old → IsBestAfter r x old new → Covers r new x
   met_covers old new x l f (inl t) = subst (λ (b : Option (List Bool)). Covers r b x) (sym t.1) (inl refl)
   met_covers None new x l f (inr t) = absurd (t.0 tt)
   met_covers (Some b) new x l f (inr t) = subst (λ (o : Option (List Bool)). Covers r o x) (sym t.1) (no_better t.0)
@@ -57,15 +57,30 @@ module _ (r : Rules) where
       no_better : (IsBetter r x b → ⊥) → Covers r (Some b) x
       no_better n = by_value n (grind (arith, ints))
 
-  grown : (old new : Option (List Bool)) (x y : List Bool) → IsBestAfter r x old new → Covers r old y → Covers r new y
-  grown old new x y (inr t) c = subst (λ (b : Option (List Bool)). Covers r b y) (sym t.1) c
-  grown None new x y (inl t) c = absurd c
-  grown (Some b) new x y (inl t) (inl s) = subst (λ (o : Option (List Bool)). Covers r o y) (sym t.1) (inr (subst (λ (z : List Bool). IsBetter r x z) s t.0))
-  grown (Some b) new x y (inl t) (inr s) = subst (λ (o : Option (List Bool)). Covers r o y) (sym t.1) (inr (better_trans r x b y t.0 s))
+  -- What the old best covered stays covered.
+  pub covers_grown : (old new : Option (List Bool)) (x y : List Bool) → IsBestAfter r x old new → Covers r old y → Covers r new y
+  covers_grown old new x y (inr t) c = subst (λ (b : Option (List Bool)). Covers r b y) (sym t.1) c
+  covers_grown None new x y (inl t) c = absurd c
+  covers_grown (Some b) new x y (inl t) (inl s) = subst (λ (o : Option (List Bool)). Covers r o y) (sym t.1) (inr (subst (λ (z : List Bool). IsBetter r x z) s t.0))
+  covers_grown (Some b) new x y (inl t) (inr s) = subst (λ (o : Option (List Bool)). Covers r o y) (sym t.1) (inr (better_trans r x b y t.0 s))
 
-  met_feasible : (old new : Option (List Bool)) (x : List Bool) → IsFeasibleBest r old → IsFeasibleFor r x → IsBestAfter r x old new → IsFeasibleBest r new
+  -- Where the old best and x are feasible, so is the new best.
+  pub met_feasible : (old new : Option (List Bool)) (x : List Bool) → IsFeasibleBest r old → IsFeasibleFor r x → IsBestAfter r x old new → IsFeasibleBest r new
   met_feasible old new x p q (inl t) = subst (IsFeasibleBest r) (sym t.1) q
   met_feasible old new x p q (inr t) = subst (IsFeasibleBest r) (sym t.1) p
+
+  -- What covers an assortment covers what that one covers.
+  pub covers_trans : (x y : List Bool) (best : Option (List Bool)) → Covers r best x → Covers r (Some x) y → Covers r best y
+  covers_trans x y None c d = absurd c
+  covers_trans x y (Some b) (inl e) d = subst (λ (z : List Bool). Covers r (Some z) y) (sym e) d
+  covers_trans x y (Some b) (inr l) (inl e) = inr (subst (λ (z : List Bool). IsBetter r b z) e l)
+  covers_trans x y (Some b) (inr l) (inr m) = inr (better_trans r b x y l m)
+
+  -- What is covered is worth no more.
+  pub covers_value : (x y : List Bool) → Covers r (Some x) y → r.value y ≤ℤ r.value x
+  covers_value x y (inl e) = let s = ap r.value e in omega (arith, ints)
+  covers_value x y (inr (inl l)) = omega (arith, ints)
+  covers_value x y (inr (inr l)) = let s = l.0 in omega (arith, ints)
 
   -- ---- The same of matching, which asks for less.
 
@@ -101,15 +116,24 @@ module _ (r : Rules) where
       more (inr a) = let s = a.0 in omega (arith, ints)
 
   -- What a best does for assortments: for each that is met, and still after a better one is.
-  record Keeps (Does : Option (List Bool) → List Bool → Type 0) : Type 0 where
+  pub record Keeps (Does : Option (List Bool) → List Bool → Type 0) : Type 0 where
     pub met : (old new : Option (List Bool)) (x : List Bool) → length x ≡ r.products → IsFeasibleBest r old → IsBestAfter r x old new → Does new x
     pub grown : (old new : Option (List Bool)) (x y : List Bool) → IsBestAfter r x old new → Does old y → Does new y
 
   covers_keeps : Keeps (Covers r)
-  covers_keeps = record { met = met_covers; grown = grown }
+  covers_keeps = record { met = met_covers; grown = covers_grown }
 
   matches_keeps : Keeps (Matches r)
   matches_keeps = record { met = met_matches; grown = grown_matches }
+
+  -- ---- The same of covering, or being worth less than a number seen.
+
+  reaches_grown : (seen : ℤ) (old new : Option (List Bool)) (x y : List Bool) → IsBestAfter r x old new → Reaches r seen old y → Reaches r seen new y
+  reaches_grown seen old new x y t (inl c) = inl (covers_grown old new x y t c)
+  reaches_grown seen old new x y t (inr l) = inr l
+
+  pub reaches_keeps : (seen : ℤ) → Keeps (Reaches r seen)
+  reaches_keeps seen = record { met = λ old new x l f t. inl (met_covers old new x l f t); grown = reaches_grown seen }
 
   module _ (law : IsLawful r) (seen : ℤ) (old new : Walk) (feasible : IsFeasibleBest r old.best) (node : List Mark) (rest : List (List Mark))
       (top : old.stack ≡ node ∷ rest) (long : length node ≡ r.products) where
@@ -123,6 +147,15 @@ module _ (r : Rules) where
         by_case v free (inl k) = absurd (free k)
         by_case v free (inr (inl l)) = seen_covers old.best seen node y own v l (subst (HasBoundInRange r) top range free)
         by_case v free (inr (inr b)) = beaten_covers old.best node y c long v feasible b
+
+    -- The best covers them, or they are worth less than a number seen, whatever that number is.
+    pub dropped_reaches : (y : List Bool) → Completes node y → r.Feasible y → IsDropped r seen old.best node → Reaches r seen old.best y
+    dropped_reaches y c f d = by_case (law.bounded node y long c f) (λ k. law.clashing node y long k c f) d
+      where
+        by_case : r.value y ≤ℤ r.bound node → (r.Clashing node → ⊥) → IsDropped r seen old.best node → Reaches r seen old.best y
+        by_case v free (inl k) = absurd (free k)
+        by_case v free (inr (inl l)) = inr (omega (arith, ints))
+        by_case v free (inr (inr b)) = inl (beaten_covers old.best node y c long v feasible b)
 
     -- The best matches them, where the number seen is at most one more.
     dropped_matches : (y : List Bool) → Completes node y → r.Feasible y → IsReached r old.best seen → HasBoundInRange r old.stack
@@ -149,7 +182,7 @@ module _ (r : Rules) where
           split (inl (inr c)) = inl (inr (inr c))
           split (inr c) = inr c
 
-      turned_has : (Completes node y → IsDropped r seen old.best node → Does old.best y) → IsOutcome r seen old node rest new
+      pub turned_has : (Completes node y → IsDropped r seen old.best node → Does old.best y) → IsOutcome r seen old node rest new
           → CompletesSome (node ∷ rest) y ⊎ Does old.best y → HasBy Does new y
       turned_has dropped (inl d) h = subst (λ (w : Walk). HasBy Does w y) (sym d.1) (below h)
         where
@@ -163,9 +196,19 @@ module _ (r : Rules) where
     taken_feasible None full free t = met_feasible old.best new.best (fill_of node) feasible (length-fill_of node ∙ long, law.full node long full free) t.1
     taken_feasible (Some i) is free t = subst (λ (w : Walk). IsFeasibleBest r w.best) (sym t) feasible
 
-    turned_feasible : IsOutcome r seen old node rest new → IsFeasibleBest r new.best
+    pub turned_feasible : IsOutcome r seen old node rest new → IsFeasibleBest r new.best
     turned_feasible (inl d) = subst (λ (w : Walk). IsFeasibleBest r w.best) (sym d.1) feasible
     turned_feasible (inr t) = taken_feasible (r.next node) (law.next node long) (λ k. t.0 (inl k)) t.1
+
+  taken_grown : (old new : Walk) (node : List Mark) (rest : List (List Mark)) (o : Option ℕ) (y : List Bool) → IsTaken r old node rest o new
+      → Covers r old.best y → Covers r new.best y
+  taken_grown old new node rest None y t c = covers_grown old.best new.best (fill_of node) y t.1 c
+  taken_grown old new node rest (Some i) y t c = subst (λ (w : Walk). Covers r w.best y) (sym t) c
+
+  -- What the best covers before a turn it covers after it.
+  pub turn_grown : (seen : ℤ) (old new : Walk) → Turn r seen old new → (y : List Bool) → Covers r old.best y → Covers r new.best y
+  turn_grown seen old new turn y c = ⊎_elim (λ d. subst (λ (w : Walk). Covers r w.best y) (sym d.1) c)
+      (λ t. taken_grown old new turn.node turn.rest (r.next turn.node) y t.1 c) turn.outcome
 
   -- ---- A walker's turn.
 
@@ -190,6 +233,14 @@ module _ (r : Rules) where
         turned_has law seen old new feasible turn.node turn.rest turn.top long (Matches r) matches_keeps y
         (λ c d. dropped_matches law seen old new feasible turn.node turn.rest turn.top long y c f reached range d) turn.outcome
         (subst (λ (s : List (List Mark)). CompletesSome s y ⊎ Matches r old.best y) turn.top h)
+
+    -- A turn with any number seen loses only assortments that are worth less than it.
+    pub turn_reaches : (y : List Bool) → r.Feasible y → HasBy (Reaches r seen) old y → HasBy (Reaches r seen) new y
+    turn_reaches y f h =
+        let long = top_long old turn.node turn.rest turn.top p sound in
+        turned_has law seen old new feasible turn.node turn.rest turn.top long (Reaches r seen) (reaches_keeps seen) y
+        (λ c d. dropped_reaches law seen old new feasible turn.node turn.rest turn.top long y c f d) turn.outcome
+        (subst (λ (s : List (List Mark)). CompletesSome s y ⊎ Reaches r seen old.best y) turn.top h)
 
     pub turn_feasible : IsFeasibleBest r new.best
     turn_feasible = turned_feasible law seen old new feasible turn.node turn.rest turn.top (top_long old turn.node turn.rest turn.top p sound) turn.outcome

@@ -5,6 +5,10 @@ pub mod SizeLemmas
 pub mod TaskLemmas
 pub mod RunLemmas
 pub mod WalkLemmas
+pub mod GiveLemmas
 pub mod OpenLemmas
 pub mod WeightLemmas
 pub mod SearchLemmas
+pub mod WorldLemmas
+pub mod CoveredLemmas
+pub mod EndedLemmas

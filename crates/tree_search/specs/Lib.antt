@@ -2,9 +2,12 @@ pub mod Goals
 pub mod Tasks
 pub mod Turns
 pub mod Rooms
+pub mod Sizes
+pub mod Gives
 pub mod Progress
+pub mod Worlds
+pub mod Covered
 pub mod Opens
 pub mod WeightGoals
 pub mod WeightLaws
 pub mod SearchFits
-pub mod WorkedGoals

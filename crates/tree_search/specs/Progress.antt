@@ -1,5 +1,5 @@
 -- How far a search has come. Within the crate.
-use Rattle.std.specs.Prelude.{◌≡◌, ◌⊎◌, ⊤, ℕ, ◌<◌, ◌≤◌, ℤ, pos, ◌+ℤ◌, ◌≤ℤ◌, Bool, Option, Some, None, List, [], ◌∷◌}
+use Rattle.std.specs.Prelude.{◌≡◌, ◌⊎◌, ⊤, ℕ, ◌<◌, ◌≤◌, ℤ, pos, ◌+ℤ◌, ◌≤ℤ◌, ◌<ℤ◌, Bool, Option, Some, None, List, [], ◌∷◌}
 use Rattle.offer_model.specs.declared.node.Mark.{Mark}
 use Rattle.offer_model.specs.Nodes.{Completes}
 use Rattle.tree_search.specs.Goals.{Rules, IsFeasibleFor, IsBetter}
@@ -27,6 +27,10 @@ HasBy Does w y = CompletesSome w.stack y ⊎ Does w.best y
 
 abbrev pub Has : Rules → Walk → List Bool → Type 0
 Has r w y = HasBy (Covers r) w y
+
+-- The best covers the assortment, or it is worth less than a number seen.
+abbrev pub Reaches : Rules → ℤ → Option (List Bool) → List Bool → Type 0
+Reaches r seen best y = Covers r best y ⊎ (r.value y <ℤ seen)
 
 abbrev pub IsFeasibleBest : Rules → Option (List Bool) → Type 0
 IsFeasibleBest r None = ⊤

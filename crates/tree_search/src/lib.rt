@@ -3,17 +3,24 @@
 
 mod branch_order;
 mod branching;
+mod event;
 mod goal;
+mod laws;
 mod pruning;
 mod search;
 mod step;
 mod tasks;
-#[cfg(test)]
-mod tests;
 mod walker;
 mod weights_goal;
+mod worker;
+mod world;
 
+pub use event::Event;
 pub use goal::Goal;
+pub use laws::{ended_has_top, events_keep_covered};
+pub use pruning::meet;
 pub use search::search_alone;
 pub use step::SearchStep;
+pub use tasks::tasks_of;
 pub use walker::Walker;
+pub use world::World;

@@ -4,6 +4,7 @@ ghost use Rattle.offer_model.specs.declared.node.Mark.TheVariants.{In, Out};
 ghost use Rattle.tree_search.specs.Tasks.{tasks_of, task_of};
 ghost use Rattle.tree_search.specs.Turns.{with_stack, Turn, IsSound, HasBoundInRange};
 ghost use Rattle.tree_search.specs.Rooms.{AllLong};
+ghost use Rattle.tree_search.specs.Gives.{IsGiven};
 
 use crate::goal::Goal;
 use crate::pruning::{is_dropped, meet};
@@ -90,9 +91,18 @@ impl Walker {
         })
     }
 
+    /// How many products the walker's goals have.
+    pub(crate) fn products(&self) -> usize
+        ensures number { result ≡ self.now.products }
+        ensures sound { IsSound self.now }
+    {
+        self.products
+    }
+
     /// Whether the stack is empty.
     pub fn idle(&self) -> bool
-        ensures { IsTrue result ↔ (self.now.stack ≡ []) }
+        ensures empty { IsTrue result ↔ (self.now.stack ≡ []) }
+        ensures sound { IsSound self.now }
     {
         self.stack.is_empty()
     }
@@ -118,9 +128,26 @@ impl Walker {
     }
 
     /// The number of nodes on the stack.
-    #[cfg(test)]
-    pub(crate) fn waiting(&self) -> usize {
+    pub fn size(&self) -> usize
+        ensures { result ≡ length self.now.stack }
+    {
         self.stack.len()
+    }
+
+    /// Gives its bottom node, of which most is still to come, to a walker whose stack is empty. The bests stay.
+    pub fn give(&mut self, other: &mut Walker)
+        requires products { self.old.products ≡ other.old.products }
+        requires some { self.old.stack ≢ [] }
+        requires idle { other.old.stack ≡ [] }
+        ensures given { IsGiven self.old other.old self.new other.new }
+        ensures sound { IsSound self.new × IsSound other.new }
+    {
+        let node = self.stack.remove(0);
+        let Some(spare) = other.free.pop() else {
+            unreachable!();
+        };
+        self.free.push_reserved(spare);
+        other.stack.push_reserved(node);
     }
 
     /// Puts the node of a task on the stack.
