@@ -1,0 +1,4 @@
+pub mod TotalLemmas
+pub mod ClaimLemmas
+pub mod StepLemmas
+pub mod CloseLemmas
