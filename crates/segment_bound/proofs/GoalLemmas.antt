@@ -1,5 +1,5 @@
 -- The goal of mixed logit: its values and bounds are in their range, and its top is the best assortment.
-use Rattle.std.proofs.Common.{◌≡◌, ℕ, ◌<◌, ◌≤◌, ◌^◌, Bool, Some, None, List, ap, arith, inl, inr}
+use Rattle.std.proofs.Common.{◌≡◌, ℕ, ◌<◌, ◌≤◌, ◌^◌, min, Bool, Some, None, List, ap, arith, inl, inr}
 use Rattle.std.specs.Prelude.{pos, ◌≤ℤ◌}
 use Rattle.std.proofs.lemmas.Int.{ints}
 use Rattle.offer_model.specs.declared.products.ModelName.{ModelName}
@@ -13,6 +13,7 @@ use Rattle.offer_model.proofs.EarningLemmas.{value_of-most}
 use Rattle.offer_model.proofs.NothingLemmas.{nothing, IsFeasible-nothing}
 use Rattle.tree_search.specs.Goals.{IsBetter, IsTop}
 use Rattle.segment_bound.specs.MixedGoals.{greatest_sum, mixed_rules, IsInRange}
+use Rattle.segment_bound.specs.Tangents.{tangent_bound, tangent_rules}
 use Rattle.segment_bound.proofs.GreatestLemmas.{greatest_sum-most}
 
 -- ---- Ranges.
@@ -25,6 +26,16 @@ pub mixed_in_range : (p : ProblemData) → IsProblem p → IsInRange (mixed_rule
 mixed_in_range p valid = record {
   values = λ x. between (value_of p x) (value_of-most p x valid);
   bounds = λ node. between (greatest_sum p node) (greatest_sum-most p node valid);
+}
+
+lesser_between : (a b : ℕ) → a ≤ 10 ^ 18 → (pos 0 ≤ℤ pos (min a b)) × (pos (min a b) ≤ℤ pos (2 ^ 60))
+lesser_between a b l = between (min a b) (omega arith)
+
+-- So are they with the lesser of both bounds.
+pub tangent_in_range : (p : ProblemData) → IsProblem p → IsInRange (tangent_rules p)
+tangent_in_range p valid = record {
+  values = λ x. between (value_of p x) (value_of-most p x valid);
+  bounds = λ node. lesser_between (greatest_sum p node) (tangent_bound p node) (greatest_sum-most p node valid);
 }
 
 -- ---- The best one.

@@ -87,7 +87,7 @@ split_term In up a = omega arith
 split_term Out up a = refl
 split_term Open up a = omega arith
 
-split_sum : (n : ℕ) (m : ℕ → Mark) (up : ℕ → Bool) (x : ℕ → Bool) (a : ℕ → ℕ) → ((i : ℕ) → x i ≡ chosen (m i) (up i))
+pub split_sum : (n : ℕ) (m : ℕ → Mark) (up : ℕ → Bool) (x : ℕ → Bool) (a : ℕ → ℕ) → ((i : ℕ) → x i ≡ chosen (m i) (up i))
     → sum_below n (λ i. cond (is_in (m i)) (a i) 0) + sum_below n (λ i. cond (is_open (m i) && up i) (a i) 0) ≡ sum_below n (λ i. cond (x i) (a i) 0)
 split_sum zero m up x a h = refl
 split_sum (suc n) m up x a h =
@@ -147,7 +147,7 @@ quotients c a b n d sb sd h =
 abbrev pub plain_weight : ProblemData → SegmentData → List Bool → ℕ
 plain_weight p g x = g.none + sum_below (product_count p) (λ i. cond (offers x i) (attraction_of g i) 0)
 
-weight_plain : (p : ProblemData) (g : SegmentData) (x : List Bool) → ((i : ℕ) → shadow_of g i ≡ 0) → weight_of p g x ≡ plain_weight p g x
+pub weight_plain : (p : ProblemData) (g : SegmentData) (x : List Bool) → ((i : ℕ) → shadow_of g i ≡ 0) → weight_of p g x ≡ plain_weight p g x
 weight_plain p g x h = ap (λ t. g.none + t)
     (sum_below-same (product_count p) (λ i. cond (offers x i) (attraction_of g i) (shadow_of g i)) (λ i. cond (offers x i) (attraction_of g i) 0) (λ i l. ap (cond (offers x i) (attraction_of g i)) (h i)))
 
@@ -204,7 +204,7 @@ module _ (p : ProblemData) (order : List Ranked) (o : IsOrder p order) (node : L
 -- ---- What the code has.
 
 -- Under mixed logit shadows are 0.
-shadow_none : (p : ProblemData) (k : ℕ) → IsProblem p → p.model ≡ Mixed → k < length p.segments → (i : ℕ) → shadow_of (segment_at p k) i ≡ 0
+pub shadow_none : (p : ProblemData) (k : ℕ) → IsProblem p → p.model ≡ Mixed → k < length p.segments → (i : ℕ) → shadow_of (segment_at p k) i ≡ 0
 shadow_none p k valid mixed l i =
     let plain : IsPlainModel p.model = rw mixed tt in
     valid.plain plain k (record { size = 0; none = 0; attract = []; shadow = [] }) l i

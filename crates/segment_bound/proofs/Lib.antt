@@ -4,4 +4,10 @@ pub mod GreatestLemmas
 pub mod DearestLemmas
 pub mod KeptLemmas
 pub mod GoalLemmas
+pub mod LinearLemmas
+pub mod TopLemmas
+pub mod TopListLemmas
+pub mod TangentLemmas
+pub mod SlopeLemmas
+pub mod TangentValueLemmas
 pub mod WorkedBoundLemmas

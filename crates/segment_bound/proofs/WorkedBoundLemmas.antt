@@ -14,4 +14,7 @@ bounds_worked = record {
   dearest_open = refl;
   next_dearest = refl;
   nothing_open = refl;
+  both_open = refl;
+  one_of_two = refl;
+  none_left = refl;
 }

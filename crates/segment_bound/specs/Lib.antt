@@ -4,4 +4,8 @@ pub mod Kept
 pub mod Greatest
 pub mod MixedGoals
 pub mod MixedLaws
+pub mod Tangents
+pub mod TangentLaws
+pub mod Tops
+pub mod Slopes
 pub mod WorkedBounds

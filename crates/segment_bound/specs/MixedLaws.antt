@@ -31,7 +31,7 @@ most f (Out ∷ node) (false ∷ y) c = most (λ z. f (false ∷ z)) node y c.1
 most f (Open ∷ node) (true ∷ y) c = let r = most (λ z. f (true ∷ z)) node y c.1 in omega arith
 most f (Open ∷ node) (false ∷ y) c = let r = most (λ z. f (false ∷ z)) node y c.1 in omega arith
 
-value_bounded : (p : ProblemData) (node : List Mark) (x : List Bool) → Completes node x → value_of p x ≤ greatest_sum p node
+pub value_bounded : (p : ProblemData) (node : List Mark) (x : List Bool) → Completes node x → value_of p x ≤ greatest_sum p node
 value_bounded p node x c = sum_le (length p.segments) (λ k. segment_value p (segment_at p k) x) (λ k. greatest (segment_value p (segment_at p k)) node)
     (λ k l. most (segment_value p (segment_at p k)) node x c)
 

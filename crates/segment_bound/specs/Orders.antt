@@ -52,6 +52,10 @@ abbrev pub first_in : List Mark → List Ranked → Option ℕ
 first_in node [] = None
 first_in node (q ∷ order) = cond (is_open (mark_at node q.product)) (Some q.product) (first_in node order)
 
+-- What is of rank r.
+abbrev pub listed_at : List Ranked → ℕ → Ranked
+listed_at order r = slice_index_or order r (record { margin = 0; product = 0 })
+
 -- The product of rank r.
 abbrev pub listed_product : List Ranked → ℕ → ℕ
 listed_product order r = (slice_index_or order r (record { margin = 0; product = 0 })).product

@@ -2,12 +2,14 @@
 use Rattle.std.specs.Prelude.{◌≡◌, true, Some, None, [], ◌∷◌}
 use Rattle.offer_model.specs.declared.node.Mark.TheVariants.{In, Out, Open}
 use Rattle.offer_model.specs.declared.products.ModelName.TheVariants.{Mixed}
+use Rattle.offer_model.specs.declared.products.Limit.TheVariants.{Total}
 use Rattle.offer_model.specs.Problems.{ProblemData, segment_at}
 use Rattle.offer_model.specs.Revenue.{segment_value, value_of}
 use Rattle.offer_model.specs.WorkedValues.{plain_product, plain_segment}
 use Rattle.segment_bound.specs.Greatest.{greatest}
 use Rattle.segment_bound.specs.Orders.{dearest}
 use Rattle.segment_bound.specs.MixedGoals.{greatest_sum}
+use Rattle.segment_bound.specs.Tangents.{tangent_bound}
 
 -- margins 6 and 10; a segment of size 1 with attractions and nothing 1, and one of size 2 with attractions 2 and 0 and nothing 3
 abbrev pub two_segments : ProblemData
@@ -19,6 +21,8 @@ two_segments = record {
   limits = [];
 }
 
+-- In 2 ^ 60ths, with one product at most: no weight is above 2 and 5, so that the tangent is 9 - 5 / 2 - 12 / 5 where nothing is
+-- offered, 37 / 10 more with the first, and 5 / 2 more with the second. Without limits weights are 3 and 5 at most.
 -- both bring 16 div 3 and 24 div 5; the second alone 10 div 2 and 0, the first alone 6 div 2 and 24 div 5
 pub record BoundsAreWorked : Type 0 where
   pub both : value_of two_segments (true ∷ true ∷ []) ≡ 9
@@ -30,3 +34,6 @@ pub record BoundsAreWorked : Type 0 where
   pub dearest_open : dearest two_segments (Open ∷ Open ∷ []) ≡ Some 1
   pub next_dearest : dearest two_segments (Open ∷ In ∷ []) ≡ Some 0
   pub nothing_open : dearest two_segments (Out ∷ In ∷ []) ≡ None
+  pub both_open : tangent_bound two_segments (Open ∷ Open ∷ []) ≡ 10
+  pub one_of_two : tangent_bound (record two_segments { limits = Total 1 ∷ [] }) (Open ∷ Open ∷ []) ≡ 7
+  pub none_left : tangent_bound (record two_segments { limits = Total 1 ∷ [] }) (Open ∷ In ∷ []) ≡ 5

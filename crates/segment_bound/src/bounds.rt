@@ -1,15 +1,17 @@
 //! The greatest values of a node, segment by segment.
-ghost use Rattle.std.specs.Prelude.{◌≡◌, length, IfOk};
+ghost use Rattle.std.specs.Prelude.{◌≡◌, ◌≤◌, length, vec_capacity, IfOk};
 ghost use Rattle.offer_model.specs.declared.products.ModelName.TheVariants.{Mixed};
 ghost use Rattle.offer_model.specs.Problems.{product_count};
 ghost use Rattle.offer_model.specs.NodeValues.{AreGreatestValues};
 ghost use Rattle.segment_bound.specs.Orders.{dearest, IsDearest};
 ghost use Rattle.segment_bound.specs.Kept.{Fits, IsKept, AreEmptySums};
+ghost use Rattle.segment_bound.specs.Tangents.{total_cap, tangent_bound};
 
 use crate::follow::follow;
 use crate::greatest::greatest;
 use crate::order::{Ranked, by_margin, first_open};
 use crate::sums::Sums;
+use crate::tangent::{Slope, tangent};
 use offer_model::{NoMemory, Node, Problem, Segments, copy_segments};
 use std::alloc::Global;
 use std::marker::Model;
@@ -101,6 +103,51 @@ impl Bounds {
             &mut self.sums,
         );
         greatest_each(p, &self.order, &self.segments, &self.sums, node, out);
+    }
+
+    /// The same numbers, and the greatest number of the tangent over the completions of the node, rounded down to units.
+    pub fn tangent(
+        &mut self,
+        p: &Problem,
+        node: &Node,
+        out: &mut [u64],
+        cap: usize,
+        slopes: &mut [Slope],
+        numbers: &mut Vec<u128>,
+    ) -> u128
+        requires fits { Fits p.now self.old }
+        requires node { length node.now ≡ product_count p.now }
+        requires each { length out.old ≡ length p.now.segments }
+        requires slopes { length slopes.old ≡ length p.now.segments }
+
+        // The total cap, and what is reused from call to call.
+        requires cap { cap ≡ total_cap p.now.limits (product_count p.now) }
+        requires space { product_count p.now ≤ vec_capacity numbers.old }
+        ensures tangent { result ≡ tangent_bound p.now node.now }
+        ensures values { AreGreatestValues p.now node.now out.new }
+        ensures slopes { length slopes.new ≡ length slopes.old }
+        ensures space { vec_capacity numbers.new ≡ vec_capacity numbers.old }
+        ensures same { self.new ≡ self.old }
+    {
+        follow(
+            &self.order,
+            &self.segments,
+            node,
+            &mut self.last,
+            &mut self.sums,
+        );
+        greatest_each(p, &self.order, &self.segments, &self.sums, node, out);
+        tangent(
+            p,
+            &self.order,
+            &self.segments,
+            node,
+            &self.sums,
+            out,
+            cap,
+            slopes,
+            numbers,
+        )
     }
 
     /// The Open product of greatest margin, the first of several, or `None` where nothing is Open.

@@ -1,7 +1,7 @@
-//! Bounds of mixed logit, segment by segment, and the search for the assortment that brings most in all segments together.
+//! Bounds of mixed logit, segment by segment and over all segments together, and the goals of the search for the assortment that
+//! brings most in all of them.
 #![tactic(auto)]
 
-mod best;
 mod bounds;
 mod follow;
 mod greatest;
@@ -9,8 +9,11 @@ mod laws;
 mod mixed_goal;
 mod order;
 mod sums;
+mod tangent;
+mod tangent_goal;
+mod tops;
 
-pub use best::best_mixed;
 pub use bounds::Bounds;
 pub use laws::worked_bounds_hold;
 pub use mixed_goal::MixedGoal;
+pub use tangent_goal::TangentGoal;

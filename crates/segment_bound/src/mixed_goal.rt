@@ -53,7 +53,7 @@ impl<'a> MixedGoal<'a> {
 }
 
 /// The sum of some numbers.
-fn sum_of(numbers: &[u64]) -> u64
+pub fn sum_of(numbers: &[u64]) -> u64
     requires { sum_below (length numbers.now) (slice_index numbers.now) ≤ 10 ^ 18 }
     ensures { result ≡ sum_below (length numbers.now) (slice_index numbers.now) }
 {

@@ -1,0 +1,143 @@
+//! The goal of mixed logit with a bound over all segments together.
+ghost use Rattle.std.specs.Prelude.{◌≡◌, ◌≤◌, length, min, pos, vec_capacity, IfOk};
+ghost use Rattle.offer_model.specs.declared.products.ModelName.TheVariants.{Mixed};
+ghost use Rattle.offer_model.specs.Problems.{product_count};
+ghost use Rattle.segment_bound.specs.Kept.{Fits};
+ghost use Rattle.segment_bound.specs.MixedGoals.{greatest_sum, IsInRange};
+ghost use Rattle.segment_bound.specs.Tangents.{total_cap, tangent_bound, tangent_rules};
+
+use crate::bounds::Bounds;
+use crate::mixed_goal::sum_of;
+use crate::tangent::{Slope, total_cap};
+use limit_rules::{clashes, first_broken};
+use offer_model::{Assortment, NoMemory, Node, Problem, mixed_value};
+use std::alloc::Global;
+use std::marker::Model;
+use tree_search::Goal;
+
+/// The goal of mixed logit, with the lesser of two bounds: the sum of the segments' greatest values, and the greatest number of the
+/// tangent, which sees that one assortment serves all segments and keeps to a total cap.
+#[derive(Drop)]
+pub struct TangentGoal<'a> {
+    problem: &'a Problem,
+    bounds: Bounds,
+    greatest: Vec<u64>,
+    slopes: Vec<Slope>,
+    cap: usize,
+    numbers: Vec<u128>,
+}
+
+impl<'a> Model for TangentGoal<'a> {
+    ghost use Rattle.std.specs.Prelude.{◌≡◌, ◌≤◌, length, vec_capacity};
+    ghost use Rattle.offer_model.specs.Problems.{ProblemData, product_count};
+    ghost use Rattle.segment_bound.specs.Kept.{Fits};
+    ghost use Rattle.segment_bound.specs.Tangents.{total_cap};
+
+    ghost Value = { ProblemData };
+
+    ghost view = { λ g. g.problem.now };
+
+    ghost invariant = { λ g. Fits g.problem.now g.bounds × (length g.greatest.items ≡ length g.problem.now.segments)
+        × (length g.slopes.items ≡ length g.problem.now.segments) × (g.cap ≡ total_cap g.problem.now.limits (product_count g.problem.now))
+        × (product_count g.problem.now ≤ vec_capacity g.numbers) };
+}
+
+impl<'a> TangentGoal<'a> {
+    #[tactic(auto, using(crate::proofs::GoalLemmas::tangent_in_range))]
+    /// The goal of a problem. Its values and bounds are from 0 to 2^60.
+    pub fn prepare(alloc: Global, problem: &'a Problem) -> Result<TangentGoal<'a>, NoMemory>
+        requires model { problem.now.model ≡ Mixed }
+        ensures goal { IfOk result (λ g. g ≡ problem.now) }
+        ensures range { IsInRange (tangent_rules problem.now) }
+    {
+        let segments = problem.segments();
+        let bounds = Bounds::prepare(alloc, problem)?;
+        let greatest = vec![in alloc; 0; segments.len()]?;
+        let slopes = vec![in alloc; Slope::default(); segments.len()]?;
+        let cap = total_cap(problem.limits(), problem.products().len());
+        let mut numbers = Vec::new(alloc);
+        numbers.reserve(problem.products().len())?;
+        Ok(TangentGoal {
+            problem,
+            bounds,
+            greatest,
+            slopes,
+            cap,
+            numbers,
+        })
+    }
+}
+
+/// The lesser of both bounds of the node.
+fn lesser(
+    bounds: &mut Bounds,
+    p: &Problem,
+    node: &Node,
+    greatest: &mut [u64],
+    cap: usize,
+    slopes: &mut [Slope],
+    numbers: &mut Vec<u128>,
+) -> i128
+    requires fits { Fits p.now bounds.old }
+    requires node { length node.now ≡ product_count p.now }
+    requires each { length greatest.old ≡ length p.now.segments }
+
+    // The total cap, and what is reused from call to call.
+    requires cap { cap ≡ total_cap p.now.limits (product_count p.now) }
+    requires slopes { length slopes.old ≡ length p.now.segments }
+    requires space { product_count p.now ≤ vec_capacity numbers.old }
+    ensures bound { result ≡ pos (min (greatest_sum p.now node.now) (tangent_bound p.now node.now)) }
+    ensures same { bounds.new ≡ bounds.old }
+    ensures each { length greatest.new ≡ length greatest.old }
+    ensures slopes { length slopes.new ≡ length slopes.old }
+    ensures space { vec_capacity numbers.new ≡ vec_capacity numbers.old }
+{
+    let together = bounds.tangent(p, node, greatest, cap, slopes, numbers);
+    let apart = u128::from(sum_of(greatest));
+    apart.min(together) as i128
+}
+
+impl Goal for TangentGoal<'_> {
+    ghost use Rattle.segment_bound.specs.Tangents.{tangent_rules};
+    ghost use Rattle.segment_bound.specs.TangentLaws.{tangent_lawful};
+
+    ghost rules = { tangent_rules };
+
+    fn products(&self) -> usize {
+        self.problem.products().len()
+    }
+
+    fn value(&self, x: &Assortment) -> i128 {
+        mixed_value(self.problem, x) as i128
+    }
+
+    fn feasible(&self, x: &Assortment) -> bool {
+        first_broken(self.problem, x).is_none()
+    }
+
+    fn clash(&self, node: &Node) -> bool {
+        clashes(self.problem, node)
+    }
+
+    fn bound(&mut self, node: &Node) -> i128 {
+        lesser(
+            &mut self.bounds,
+            self.problem,
+            node,
+            &mut self.greatest,
+            self.cap,
+            &mut self.slopes,
+            &mut self.numbers,
+        )
+    }
+
+    fn next(&self, node: &Node) -> Option<usize> {
+        self.bounds.dearest_open(self.problem, node)
+    }
+
+    fn fork(&self, alloc: Global) -> Result<Self, NoMemory> {
+        TangentGoal::prepare(alloc, self.problem)
+    }
+
+    ghost lawful = { tangent_lawful };
+}
