@@ -1,5 +1,5 @@
 -- The word that is given for each key, and what a request without a missing key has.
-use Rattle.std.proofs.Common.{◌≡◌, refl, sym, subst, ℕ, zero, suc, List, [], ◌∷◌, slice_index_or, slice_set, Option, Some, None, is_some, unwrap_or, Bool, true, false, not, ◌&&◌, IsTrue, IsSome, IfSome, Bor, if◌then◌else◌}
+use Rattle.std.proofs.Common.{◌≡◌, refl, sym, subst, ℕ, zero, suc, ◌<◌, length, arith, List, [], ◌∷◌, slice_index_or, slice_set, Option, Some, None, is_some, unwrap_or, Bool, true, false, not, ◌&&◌, IsTrue, IsSome, IfSome, Bor, if◌then◌else◌}
 use Rattle.std.specs.Prelude.{map}
 use Rattle.std.specs.Option.{option_copied, option_and_then}
 use Rattle.std.specs.List.{find}
@@ -10,7 +10,7 @@ use Rattle.offer_model.specs.declared.products.ModelName.{ModelName}
 use Rattle.offer_model.specs.declared.products.ModelName.TheVariants.{Logit}
 use Rattle.assort_words.specs.declared.usage.Command.{Command}
 use Rattle.assort_words.specs.declared.usage.Key.{Key}
-use Rattle.assort_words.specs.declared.usage.Key.TheVariants.{Model, Products, Limits, Segments, NoneWeight, Unit, Proof, NoKey}
+use Rattle.assort_words.specs.declared.usage.Key.TheVariants.{Model, Products, Limits, Segments, NoneWeight, Unit, Proof, Workers, NoKey}
 use Rattle.assort_words.specs.declared.keys.Group.{Group}
 use Rattle.assort_words.specs.declared.keys.Group.TheVariants as G
 use Rattle.assort_words.specs.Keys.{keys, index_of, domain_of, use_of, is_in_domain, is_among, is_needed, model_of, number_within}
@@ -48,6 +48,7 @@ key_at_index Segments = refl
 key_at_index NoneWeight = refl
 key_at_index Unit = refl
 key_at_index Proof = refl
+key_at_index Workers = refl
 key_at_index NoKey = refl
 
 -- a word of its key's domain keeps the request in its domains
@@ -61,12 +62,19 @@ domains_kept r k w each here = λ j.
 
 -- ---- Nothing is missing.
 
-none_found : (p : Key → Bool) (k : Key) (ks : List Key) → find p (k ∷ ks) ≡ None → (p k ≡ false) × (find p ks ≡ None)
-none_found p k ks e = by_test (p k) e
-  where
-    by_test : (b : Bool) → (if b then Some k else find p ks) ≡ None → (b ≡ false) × (find p ks ≡ None)
-    by_test true e = absurd (cc)
-    by_test false e = (refl, e)
+not_this : (b : Bool) (k : Key) (o : Option Key) → (if b then Some k else o) ≡ None → b ≡ false
+not_this true k o e = absurd (cc)
+not_this false k o e = refl
+
+nor_later : (b : Bool) (k : Key) (o : Option Key) → (if b then Some k else o) ≡ None → o ≡ None
+nor_later true k o e = absurd (cc)
+nor_later false k o e = e
+
+-- where nothing is found, no item of the list would do
+none_found : (p : Key → Bool) (ks : List Key) (n : ℕ) → find p ks ≡ None → n < length ks → p (slice_index_or ks n NoKey) ≡ false
+none_found p [] n e inside = absurd (omega arith)
+none_found p (k ∷ ks) zero e inside = not_this (p k) k (find p ks) e
+none_found p (k ∷ ks) (suc m) e inside = none_found p ks m (nor_later (p k) k (find p ks) e) (omega arith)
 
 given_some : (o : Option (List ℕ)) → not (is_some o) ≡ false → IsSome o
 given_some None e = absurd (cc)
@@ -89,19 +97,18 @@ asked_given o g given some among e = by_model (option_and_then model_of o) some 
 -- a request in its domains without a missing key
 pub has_all : (r : RequestData) → IsInDomains r → find (is_missing r) keys ≡ None → IsComplete r
 has_all r each e =
-    let model = none_found (is_missing r) Model (Products ∷ Limits ∷ Segments ∷ NoneWeight ∷ Unit ∷ Proof ∷ []) e in
-    let products = none_found (is_missing r) Products (Limits ∷ Segments ∷ NoneWeight ∷ Unit ∷ Proof ∷ []) model.1 in
-    let limits = none_found (is_missing r) Limits (Segments ∷ NoneWeight ∷ Unit ∷ Proof ∷ []) products.1 in
-    let segments = none_found (is_missing r) Segments (NoneWeight ∷ Unit ∷ Proof ∷ []) limits.1 in
-    let none = none_found (is_missing r) NoneWeight (Unit ∷ Proof ∷ []) segments.1 in
-    let unit = none_found (is_missing r) Unit (Proof ∷ []) none.1 in
-    let proof = none_found (is_missing r) Proof [] unit.1 in
-    let some : IsSome (asked_model r) = read_some (word_of r Model) model_of model.0 (each Model) in
+    let there : (n : ℕ) → n < length keys → is_missing r (slice_index_or keys n NoKey) ≡ false = λ n. none_found (is_missing r) keys n e in
+    let model : is_missing r Model ≡ false = there 0 (omega arith) in
+    let products : is_missing r Products ≡ false = there 1 (omega arith) in
+    let segments : is_missing r Segments ≡ false = there 3 (omega arith) in
+    let none : is_missing r NoneWeight ≡ false = there 4 (omega arith) in
+    let proof : is_missing r Proof ≡ false = there 6 (omega arith) in
+    let some : IsSome (asked_model r) = read_some (word_of r Model) model_of model (each Model) in
     record {
       model = some;
-      products = given_some (word_of r Products) products.0;
-      segments = λ mixed. given_some (word_of r Segments) (asked_given (word_of r Model) G.Mixed (is_given r Segments) some mixed segments.0);
-      none = λ ratio. read_some (word_of r NoneWeight) (number_within 1 MOST_AMOUNT) (asked_given (word_of r Model) G.Ratio (is_given r NoneWeight) some ratio none.0) (each NoneWeight);
+      products = given_some (word_of r Products) products;
+      segments = λ mixed. given_some (word_of r Segments) (asked_given (word_of r Model) G.Mixed (is_given r Segments) some mixed segments);
+      none = λ ratio. read_some (word_of r NoneWeight) (number_within 1 MOST_AMOUNT) (asked_given (word_of r Model) G.Ratio (is_given r NoneWeight) some ratio none) (each NoneWeight);
       proof = λ check. given_some (word_of r Proof)
-          (subst (λ (c : Command). (is_needed (use_of Proof c) (unwrap_or (asked_model r) Logit) && not (is_given r Proof)) ≡ false) check proof.0);
+          (subst (λ (c : Command). (is_needed (use_of Proof c) (unwrap_or (asked_model r) Logit) && not (is_given r Proof)) ≡ false) check proof);
     }

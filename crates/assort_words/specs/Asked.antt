@@ -10,7 +10,7 @@ use Rattle.assort_words.specs.declared.keys.TheConstants.{KEY_SLOTS}
 use Rattle.assort_words.specs.declared.usage.Command.{Command}
 use Rattle.assort_words.specs.declared.usage.Command.TheVariants.{Solve, Check}
 use Rattle.assort_words.specs.declared.usage.Key.{Key}
-use Rattle.assort_words.specs.declared.usage.Key.TheVariants.{Model, Products, Limits, Segments, NoneWeight, Unit, Proof, NoKey}
+use Rattle.assort_words.specs.declared.usage.Key.TheVariants.{Model, Products, Limits, Segments, NoneWeight, Unit, Proof, Workers, NoKey}
 use Rattle.assort_words.specs.declared.usage.UsageFault.{UsageFault}
 use Rattle.assort_words.specs.declared.usage.UsageCode.{UsageCode}
 use Rattle.assort_words.specs.declared.usage.UsageCode.TheVariants.{NoCommand, UnknownCommand, UnknownOption, RepeatedOption, MissingValue, Nested, BadValue, MissingOption, UnusedOption, ProofIsInput}
@@ -65,6 +65,9 @@ asked_unit r = option_and_then (number_within 1 MOST_AMOUNT) (word_of r Unit)
 
 abbrev pub asked_proof : RequestData → Option (List ℕ)
 asked_proof r = word_of r Proof
+
+abbrev pub asked_workers : RequestData → Option ℕ
+asked_workers r = option_and_then (number_within 1 64) (word_of r Workers)
 
 -- The model that is asked for is one of the group's.
 abbrev pub IsAskedOf : Group → RequestData → Type 0

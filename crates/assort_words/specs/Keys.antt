@@ -9,7 +9,7 @@ use Rattle.offer_model.specs.Numerals.{number_of}
 use Rattle.assort_words.specs.declared.usage.Command.{Command}
 use Rattle.assort_words.specs.declared.usage.Command.TheVariants.{Solve, Check}
 use Rattle.assort_words.specs.declared.usage.Key.{Key}
-use Rattle.assort_words.specs.declared.usage.Key.TheVariants.{Model, Products, Limits, Segments, NoneWeight, Unit, Proof, NoKey}
+use Rattle.assort_words.specs.declared.usage.Key.TheVariants.{Model, Products, Limits, Segments, NoneWeight, Unit, Proof, Workers, NoKey}
 use Rattle.assort_words.specs.declared.keys.Domain.{Domain}
 use Rattle.assort_words.specs.declared.keys.Domain.TheVariants.{Models, Files, Numbers}
 use Rattle.assort_words.specs.declared.keys.Group.{Group}
@@ -19,7 +19,7 @@ use Rattle.assort_words.specs.declared.keys.Use.TheVariants.{Never, May, Must, M
 
 -- The keys, in the order in which they are looked at.
 abbrev pub keys : List Key
-keys = Model ∷ Products ∷ Limits ∷ Segments ∷ NoneWeight ∷ Unit ∷ Proof ∷ []
+keys = Model ∷ Products ∷ Limits ∷ Segments ∷ NoneWeight ∷ Unit ∷ Proof ∷ Workers ∷ []
 
 -- A key's index in this list; that no key is given stands past the last.
 abbrev pub index_of : Key → ℕ
@@ -30,7 +30,8 @@ index_of Segments = 3
 index_of NoneWeight = 4
 index_of Unit = 5
 index_of Proof = 6
-index_of NoKey = 7
+index_of Workers = 7
+index_of NoKey = 8
 
 -- A key as it is written.
 abbrev pub text_of : Key → List ℕ
@@ -41,6 +42,7 @@ text_of Segments = codes "--segments"
 text_of NoneWeight = codes "--none"
 text_of Unit = codes "--unit"
 text_of Proof = codes "--proof"
+text_of Workers = codes "--workers"
 text_of NoKey = []
 
 -- The values that a key may have.
@@ -52,6 +54,7 @@ domain_of Segments = Files
 domain_of NoneWeight = Numbers 1 MOST_AMOUNT
 domain_of Unit = Numbers 1 MOST_AMOUNT
 domain_of Proof = Files
+domain_of Workers = Numbers 1 64
 domain_of NoKey = Files
 
 -- What a command makes of a key.
@@ -64,6 +67,8 @@ use_of NoneWeight c = MustWith G.Ratio
 use_of Unit c = MayWith G.Mixed
 use_of Proof Solve = May
 use_of Proof Check = Must
+use_of Workers Solve = MayWith G.Mixed
+use_of Workers Check = Never
 use_of NoKey c = Never
 
 -- ---- What the words of the table mean.

@@ -7,7 +7,7 @@ use crate::values::{read_model, read_within};
 use offer_model::{MOST_AMOUNT, ModelName};
 
 /// The keys, in the order in which they are looked at.
-pub(crate) const KEYS: [Key; 7] = [
+pub(crate) const KEYS: [Key; 8] = [
     Key::Model,
     Key::Products,
     Key::Limits,
@@ -15,10 +15,14 @@ pub(crate) const KEYS: [Key; 7] = [
     Key::NoneWeight,
     Key::Unit,
     Key::Proof,
+    Key::Workers,
 ];
 
+/// The most threads that search; more bring nothing where there are at most 256 tasks.
+pub const MOST_WORKERS: u64 = 64;
+
 /// A slot for each `Key`, with `NoKey`, whose slot stays empty.
-pub const KEY_SLOTS: usize = 8;
+pub const KEY_SLOTS: usize = 9;
 
 /// The values that a key may have.
 #[derive(Clone, Copy)]
@@ -66,6 +70,7 @@ impl Key {
             Key::NoneWeight => "--none",
             Key::Unit => "--unit",
             Key::Proof => "--proof",
+            Key::Workers => "--workers",
             Key::NoKey => "",
         }
     }
@@ -82,6 +87,7 @@ impl Key {
         match self {
             Key::Model => Domain::Models,
             Key::NoneWeight | Key::Unit => Domain::Numbers(1, MOST_AMOUNT),
+            Key::Workers => Domain::Numbers(1, MOST_WORKERS),
             Key::Products | Key::Limits | Key::Segments | Key::Proof | Key::NoKey => Domain::Files,
         }
     }
@@ -98,6 +104,8 @@ impl Key {
             (Key::Unit, _) => Use::MayWith(Group::Mixed),
             (Key::Proof, Command::Solve) => Use::May,
             (Key::Proof, Command::Check) => Use::Must,
+            (Key::Workers, Command::Solve) => Use::MayWith(Group::Mixed),
+            (Key::Workers, Command::Check) => Use::Never,
             (Key::NoKey, _) => Use::Never,
         }
     }

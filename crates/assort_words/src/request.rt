@@ -1,12 +1,12 @@
 //! What is asked for: a command, and the word that is given for each key.
-ghost use Rattle.std.specs.Prelude.{◌≡◌, ◌≢◌, IfSome, IsTrue};
+ghost use Rattle.std.specs.Prelude.{◌≡◌, ◌≢◌, ◌≤◌, IfSome, IsTrue};
 ghost use Rattle.std.specs.Option.{option_copied};
 ghost use Rattle.offer_model.specs.Validity.{IsPositiveAmount};
 ghost use Rattle.offer_model.specs.declared.products.ModelName.TheVariants as name;
 ghost use Rattle.assort_words.specs.Keys.{domain_of, is_in_domain};
-ghost use Rattle.assort_words.specs.Asked.{IsInDomains, bare_request, word_of, with_word, is_given, asked_model, asked_products, asked_limits, asked_segments, asked_none, asked_unit, asked_proof};
+ghost use Rattle.assort_words.specs.Asked.{IsInDomains, bare_request, word_of, with_word, is_given, asked_model, asked_products, asked_limits, asked_segments, asked_none, asked_unit, asked_proof, asked_workers};
 
-use crate::keys::KEY_SLOTS;
+use crate::keys::{KEY_SLOTS, MOST_WORKERS};
 use crate::usage::{Command, Key};
 use crate::values::{read_model, read_within};
 use offer_model::{MOST_AMOUNT, ModelName};
@@ -71,7 +71,7 @@ impl<'a> Request<'a> {
         self.command
     }
 
-    /// `None` exactly where the key isn't given; so do the next six.
+    /// `None` exactly where the key isn't given; so do the next seven.
     pub fn model(&self) -> Option<ModelName>
         ensures value { result ≡ asked_model self.now }
         ensures problem { IfSome result (λ m. m ≢ name.Chain) }
@@ -116,5 +116,12 @@ impl<'a> Request<'a> {
         ensures { option_copied result ≡ asked_proof self.now }
     {
         self.word(Key::Proof)
+    }
+
+    pub fn workers(&self) -> Option<u64>
+        ensures value { result ≡ asked_workers self.now }
+        ensures range { IfSome result (λ n. (1 ≤ n) × (n ≤ 64)) }
+    {
+        read_within(self.word(Key::Workers)?, 1, MOST_WORKERS)
     }
 }

@@ -18,6 +18,8 @@ pub enum Key {
     /// `--unit`, the step to which a segment's revenue is rounded down.
     Unit,
     Proof,
+    /// `--workers`, the number of threads that search.
+    Workers,
     /// A fault that is about no key has this one.
     NoKey,
 }
