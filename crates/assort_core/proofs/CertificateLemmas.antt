@@ -1,7 +1,7 @@
 -- The certificates of the models that are solved are those of the request's problem.
 use Rattle.offer_model.specs.declared.products.ModelName.{ModelName}
 use Rattle.offer_model.specs.declared.products.ModelName.TheVariants.{Logit, Attract, Mixed, Chain}
-use Rattle.std.proofs.Common.{◌≡◌, ◌≢◌, refl}
+use Rattle.std.proofs.Common.{◌≢◌, refl}
 use Rattle.assort_words.specs.Asked.{RequestData}
 use Rattle.assort_core.specs.Stages.{InputsData, asked_problem}
 use Rattle.assort_core.specs.Certificates.{Certificate, problem_certificate, certificate_under}

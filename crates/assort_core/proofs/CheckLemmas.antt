@@ -4,12 +4,12 @@ use Rattle.offer_model.specs.Problems.{ProblemData}
 use Rattle.offer_model.specs.declared.products.ModelName.TheVariants.{Chain}
 use Rattle.offer_io.specs.Stores.{StoreView, Passes}
 use Rattle.proof_lines.specs.Acceptance.{Accepts}
-use Rattle.catalogue.specs.declared.faults.FileName.TheVariants.{Proof}
+use Rattle.catalogue_rows.specs.declared.faults.FileName.TheVariants.{Proof}
 use Rattle.assort_core.specs.declared.stop.Stop.{Stop}
 use Rattle.assort_words.specs.declared.usage.Command.{Command}
 use Rattle.assort_words.specs.declared.usage.Command.TheVariants.{Check}
 use Rattle.assort_words.specs.Asked.{RequestData, asked_proof}
-use Rattle.assort_core.specs.Stages.{InputsData, model_asked, asked_problem, read_proof, proof_stage, most_proof, table_count}
+use Rattle.assort_core.specs.Stages.{InputsData, model_asked, asked_problem, read_proof, proof_stage, most_proof, tables}
 use Rattle.assort_core.specs.Certificates.{Certificate, certificate_of}
 use Rattle.assort_core.specs.Judged.{GivesBefore, Gives}
 use Rattle.assort_core.specs.Deeds.{answer}
@@ -54,12 +54,12 @@ verdict_of false c text report status told s e = inr (λ a. let f : IsTrue false
 -- the verdict over the files that a store tells
 pub check_answer : (r : RequestData) (old mid : StoreView) (i : InputsData) (p : ProblemData) (name text report : List ℕ) (b : Bool) (status : ℕ)
     → r.command ≡ Check → asked_proof r ≡ Some name → p ≡ asked_problem r i → p.model ≢ Chain → Passes old mid
-    → (IsTrue old.tells → GivesBefore table_count r old i)
+    → (IsTrue old.tells → GivesBefore (length tables) r old i)
     → (IsTrue mid.tells → mid.file name ≡ Some text) → length text ≤ most_proof → (IsTrue b ↔ Accepts p text)
     → status ≡ (if b then 0 else 1) → report ≡ (if b then accepted_report else rejected_report)
     → IsTrue old.tells → IsAnswerTo r old.file (answer status report)
 check_answer r old mid i p name text report b status check proof is known passes before content fits accepted s e told =
-    let there : Gives r old read = stage_read table_count (proof_stage r) r old i read name text refl (proof_named r name check proof) (before told) named fits refl in
+    let there : Gives r old read = stage_read (length tables) (proof_stage r) r old i read name text refl (proof_named r name check proof) (before told) named fits refl in
     rw there (subst (λ (c : Command). (deed_of c r).IsDone read (answer status report)) (sym check) said)
   where
     read : InputsData
@@ -80,8 +80,8 @@ check_answer r old mid i p name text report b status check proof is known passes
 
 -- Why a proof isn't loaded is why there is no report.
 pub proof_unloaded : (stop : Stop) (r : RequestData) (old mid new : StoreView) (i : InputsData) (name : List ℕ)
-    → r.command ≡ Check → asked_proof r ≡ Some name → Passes old mid → (IsTrue old.tells → GivesBefore table_count r old i)
+    → r.command ≡ Check → asked_proof r ≡ Some name → Passes old mid → (IsTrue old.tells → GivesBefore (length tables) r old i)
     → WhyUnloaded Proof name most_proof mid new stop → WhyStopped r old new stop
 proof_unloaded stop r old mid new i name check proof passes before why =
     later_stop stop r old mid new passes
-    (stage_unloaded stop table_count (proof_stage r) r mid new i name refl (proof_named r name check proof) (gives_later table_count r old mid i passes before) why)
+    (stage_unloaded stop (length tables) (proof_stage r) r mid new i name refl (proof_named r name check proof) (gives_later (length tables) r old mid i passes before) why)

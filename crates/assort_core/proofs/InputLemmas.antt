@@ -1,23 +1,19 @@
 -- Why a stage stops a run, and what the stages of a request give, from what was loaded and read.
 use Rattle.std.proofs.Common.{◌≡◌, ◌∙◌, arith, subst, sym, refl, ap, suc, ℕ, ◌≤◌, List, length, take, Some, None, Result, Ok, Err, IsTrue}
 use Rattle.std.specs.Prelude.{Contains, slice_get}
-use Rattle.catalogue.specs.declared.faults.Code.{Code}
-use Rattle.catalogue.specs.declared.faults.FileName.{FileName}
-use Rattle.catalogue.specs.declared.faults.InputFault.{InputFault}
-use Rattle.catalogue.specs.declared.faults.InputFault.TheVariants.{Fault}
-use Rattle.catalogue.specs.declared.faults.InputFault.TheVariants as fault
-use Rattle.catalogue.specs.Faults.{OnFault}
-use Rattle.catalogue.specs.Rows.{RowData}
-use Rattle.catalogue.specs.ProductTables.{products_outcome}
-use Rattle.catalogue.specs.SegmentTables.{NamedSegment, segments_outcome}
-use Rattle.offer_model.specs.declared.products.ModelName.{ModelName}
+use Rattle.catalogue_rows.specs.declared.faults.Code.{Code}
+use Rattle.catalogue_rows.specs.declared.faults.FileName.{FileName}
+use Rattle.catalogue_rows.specs.declared.faults.InputFault.{InputFault}
+use Rattle.catalogue_rows.specs.declared.faults.InputFault.TheVariants.{Fault}
+use Rattle.catalogue_rows.specs.declared.faults.InputFault.TheVariants as fault
+use Rattle.catalogue_rows.specs.Faults.{OnFault}
 use Rattle.offer_io.specs.Causes.{Rose}
 use Rattle.offer_io.specs.Stores.{StoreView, Passes}
 use Rattle.assort_words.specs.Asked.{RequestData}
 use Rattle.assort_core.specs.declared.stop.Stop.{Stop}
 use Rattle.assort_core.specs.declared.stop.Stop.TheVariants.{Unread, Faulty, UnwrittenProof, NoMemory}
 use Rattle.assort_core.specs.Lines.{fault_line}
-use Rattle.assort_core.specs.Stages.{InputsData, no_inputs, Stage, stages, with_part, unit_of, model_asked}
+use Rattle.assort_core.specs.Stages.{InputsData, no_inputs, Stage, stages, with_part}
 use Rattle.assort_core.specs.Judged.{Files, given_by, judged, GivesBefore}
 use Rattle.assort_core.specs.Deeds.{answer, refusal}
 use Rattle.assort_core.specs.Outcomes.{IsAnswerTo}
@@ -66,28 +62,6 @@ part_faulty fault.NoMemory o put is = tt
 
 pub part_given : {A : Type 0} (a : A) (o : Result A InputFault) (put : A → InputsData) → o ≡ Ok a → with_part o put ≡ Ok (put a)
 part_given a o put is = rw is refl
-
--- What the products file gives, by the request's model and the file's bytes.
-pub products_faulty : (e : InputFault) (r : RequestData) (m : ModelName) (slice bytes : List ℕ) → m ≡ model_asked r → slice ≡ bytes
-    → OnFault e (products_outcome m slice ≡ Err e) → OnFault e (products_outcome (model_asked r) bytes ≡ Err e)
-products_faulty e r m slice bytes under same is =
-    subst (λ b. OnFault e (products_outcome (model_asked r) b ≡ Err e)) same (subst (λ n. OnFault e (products_outcome n slice ≡ Err e)) under is)
-
-pub products_given : (rows : List RowData) (r : RequestData) (m : ModelName) (slice bytes : List ℕ) → m ≡ model_asked r → slice ≡ bytes
-    → products_outcome m slice ≡ Ok rows → products_outcome (model_asked r) bytes ≡ Ok rows
-products_given rows r m slice bytes under same is =
-    subst (λ b. products_outcome (model_asked r) b ≡ Ok rows) same (subst (λ n. products_outcome n slice ≡ Ok rows) under is)
-
--- What the segments file gives, by the request's unit and the file's bytes.
-pub segments_faulty : (e : InputFault) (r : RequestData) (rows : List RowData) (unit : ℕ) (slice bytes : List ℕ) → unit ≡ unit_of r → slice ≡ bytes
-    → OnFault e (segments_outcome rows unit slice ≡ Err e) → OnFault e (segments_outcome rows (unit_of r) bytes ≡ Err e)
-segments_faulty e r rows unit slice bytes under same is =
-    subst (λ b. OnFault e (segments_outcome rows (unit_of r) b ≡ Err e)) same (subst (λ n. OnFault e (segments_outcome rows n slice ≡ Err e)) under is)
-
-pub segments_given : (segments : List NamedSegment) (r : RequestData) (rows : List RowData) (unit : ℕ) (slice bytes : List ℕ) → unit ≡ unit_of r → slice ≡ bytes
-    → segments_outcome rows unit slice ≡ Ok segments → segments_outcome rows (unit_of r) bytes ≡ Ok segments
-segments_given segments r rows unit slice bytes under same is =
-    subst (λ b. segments_outcome rows (unit_of r) b ≡ Ok segments) same (subst (λ n. segments_outcome rows n slice ≡ Ok segments) under is)
 
 -- What the first stages give, with what stage k gives.
 pub stage_read : (k : ℕ) (s : Stage) (r : RequestData) (old : StoreView) (i j : InputsData) (name bytes : List ℕ)

@@ -1,8 +1,10 @@
 pub mod OutputFileLemmas
+pub mod TableLemmas
 pub mod TaskLemmas
 pub mod StageLemmas
 pub mod InputLemmas
 pub mod CertificateLemmas
+pub mod MixedLemmas
 pub mod SolveLemmas
 pub mod CheckLemmas
 pub mod RunLemmas

@@ -6,8 +6,8 @@ use Rattle.offer_model.specs.declared.products.ModelName.TheVariants.{Logit, Att
 use Rattle.offer_io.specs.Causes.{Rose}
 use Rattle.offer_io.specs.Stores.{StoreView}
 use Rattle.offer_io.specs.Sinks.{SinkView, Writes}
-use Rattle.catalogue.specs.declared.faults.InputFault.TheVariants.{Fault}
-use Rattle.catalogue.specs.declared.faults.InputFault.TheVariants as fault
+use Rattle.catalogue_rows.specs.declared.faults.InputFault.TheVariants.{Fault}
+use Rattle.catalogue_rows.specs.declared.faults.InputFault.TheVariants as fault
 use Rattle.proof_lines.proofs.AcceptedIsBest.{accepted_is_best}
 use Rattle.assort_core.specs.declared.stop.Stop.{Stop}
 use Rattle.assort_core.specs.declared.stop.Stop.TheVariants.{Unread, Faulty, UnwrittenProof, NoMemory}

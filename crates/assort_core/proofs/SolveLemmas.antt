@@ -1,5 +1,5 @@
 -- What comes of a request to solve, from what its parts do.
-use Rattle.std.proofs.Common.{◌≡◌, ◌≢◌, ◌∙◌, sym, refl, ap, subst, None, ℕ, Bool, List, [], take, Some, IsTrue, Result, Ok, Err, OnErr, inl, inr, ◌⊎◌}
+use Rattle.std.proofs.Common.{◌≡◌, ◌≢◌, ◌∙◌, sym, refl, ap, subst, None, ℕ, Bool, List, [], take, length, Some, IsTrue, Result, Ok, Err, OnErr, inl, inr, ◌⊎◌}
 use Rattle.offer_model.specs.Problems.{ProblemData}
 use Rattle.offer_model.specs.Best.{IsBest}
 use Rattle.offer_model.specs.declared.products.ModelName.TheVariants.{Chain}
@@ -13,7 +13,7 @@ use Rattle.assort_words.specs.declared.usage.Command.TheVariants.{Solve}
 use Rattle.assort_words.specs.Asked.{RequestData, asked_proof}
 use Rattle.assort_reports.specs.Reports.{problem_report}
 use Rattle.assort_core.specs.Lines.{unwritten_proof_line}
-use Rattle.assort_core.specs.Stages.{InputsData, model_asked, asked_problem, read_proof, proof_stage, no_inputs, stages, table_count}
+use Rattle.assort_core.specs.Stages.{InputsData, model_asked, asked_problem, read_proof, proof_stage, no_inputs, stages, tables}
 use Rattle.assort_core.specs.Judged.{GivesBefore, Gives}
 use Rattle.assort_core.specs.Deeds.{answer}
 use Rattle.assort_core.specs.Outcomes.{IsAnswerTo, deed_of, output_of}
@@ -26,9 +26,9 @@ use Rattle.assort_core.proofs.StageLemmas.{next_given, unasked_given}
 use Rattle.assort_core.proofs.InputLemmas.{rose_later}
 
 -- no proof is read
-pub solve_gives : (r : RequestData) (store : StoreView) (i : InputsData) → r.command ≡ Solve → GivesBefore table_count r store i → Gives r store i
+pub solve_gives : (r : RequestData) (store : StoreView) (i : InputsData) → r.command ≡ Solve → GivesBefore (length tables) r store i → Gives r store i
 solve_gives r store i solve before =
-    next_given (stages r) table_count (proof_stage r) no_inputs i i store.file refl before
+    next_given (stages r) (length tables) (proof_stage r) no_inputs i i store.file refl before
     (unasked_given (proof_stage r) i store.file (ap (λ (c : Command). read_proof c r) solve))
 
 -- the answer of a request to solve

@@ -2,9 +2,9 @@
 use Rattle.std.proofs.Common.{◌≡◌, refl, arith, zero, suc, ℕ, ◌<◌, ◌≤◌, List, [], ◌∷◌, length, take, true, false, nat_le, Some, None, Result, Ok, Err}
 use Rattle.std.specs.Prelude.{slice_get}
 use Rattle.std.proofs.lemmas.Bool.Decides.{nat_tests}
-use Rattle.catalogue.specs.declared.faults.Code.TheVariants.{TooLarge}
-use Rattle.catalogue.specs.declared.faults.InputFault.{InputFault}
-use Rattle.catalogue.specs.declared.faults.InputFault.TheVariants.{Fault}
+use Rattle.catalogue_rows.specs.declared.faults.Code.TheVariants.{TooLarge}
+use Rattle.catalogue_rows.specs.declared.faults.InputFault.{InputFault}
+use Rattle.catalogue_rows.specs.declared.faults.InputFault.TheVariants.{Fault}
 use Rattle.assort_core.specs.Stages.{InputsData, Stage}
 use Rattle.assort_core.specs.Judged.{Files, Given, stage_given, and_given, given_by}
 

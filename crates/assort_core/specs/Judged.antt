@@ -1,8 +1,8 @@
 -- What the files of a request give, or the first fault among them: the stages, one after the other. Own.
 use Rattle.std.specs.Prelude.{◌≡◌, ℕ, List, [], ◌∷◌, length, take, Option, Some, None, option_map, Result, Ok, Err, nat_le, if◌then◌else◌}
-use Rattle.catalogue.specs.declared.faults.Code.TheVariants.{TooLarge}
-use Rattle.catalogue.specs.declared.faults.InputFault.{InputFault}
-use Rattle.catalogue.specs.declared.faults.InputFault.TheVariants.{Fault}
+use Rattle.catalogue_rows.specs.declared.faults.Code.TheVariants.{TooLarge}
+use Rattle.catalogue_rows.specs.declared.faults.InputFault.{InputFault}
+use Rattle.catalogue_rows.specs.declared.faults.InputFault.TheVariants.{Fault}
 use Rattle.offer_io.specs.Stores.{StoreView}
 use Rattle.assort_words.specs.Asked.{RequestData}
 use Rattle.assort_core.specs.Stages.{InputsData, no_inputs, Stage, stages}

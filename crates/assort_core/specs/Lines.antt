@@ -4,11 +4,11 @@ use Rattle.assort_words.specs.Keys.{text_of}
 use Rattle.assort_words.specs.declared.usage.UsageFault.{UsageFault}
 use Rattle.assort_words.specs.declared.usage.UsageCode.{UsageCode}
 use Rattle.assort_words.specs.declared.usage.UsageCode.TheVariants.{NoCommand, UnknownCommand, UnknownOption, RepeatedOption, MissingValue, Nested, BadValue, MissingOption, UnusedOption, ProofIsInput}
-use Rattle.catalogue.specs.declared.faults.FileName.{FileName}
-use Rattle.catalogue.specs.declared.faults.FileName.TheVariants.{Products, Limits, Segments, Arcs, Proof as ProofFile, Offer}
-use Rattle.catalogue.specs.declared.faults.Code.{Code}
-use Rattle.catalogue.specs.declared.faults.Code.TheVariants.{BadName, BadNumber, OutOfRange, RepeatedName, UnknownName, UnknownKind, RepeatedLimit, ShadowAbove, TooManyProducts, TooManyLines, SizesTooGreat, NoArrivals, NoLeaving, UnknownColumn, RepeatedColumn, MissingColumn, FieldCount, TooLarge, WrongLength}
-use Rattle.catalogue.specs.ProductTables.{product_columns}
+use Rattle.catalogue_rows.specs.declared.faults.FileName.{FileName}
+use Rattle.catalogue_rows.specs.declared.faults.FileName.TheVariants.{Products, Limits, Segments, Arcs, Proof as ProofFile, Offer}
+use Rattle.catalogue_rows.specs.declared.faults.Code.{Code}
+use Rattle.catalogue_rows.specs.declared.faults.Code.TheVariants.{BadName, BadNumber, OutOfRange, RepeatedName, UnknownName, UnknownKind, RepeatedLimit, ShadowAbove, TooManyProducts, TooManyLines, SizesTooGreat, NoArrivals, NoLeaving, UnknownColumn, RepeatedColumn, MissingColumn, FieldCount, TooLarge, WrongLength}
+use Rattle.catalogue_rows.specs.ProductTables.{product_columns}
 use Rattle.catalogue.specs.LimitTables.{limit_columns}
 use Rattle.catalogue.specs.SegmentTables.{segment_columns}
 

@@ -1,6 +1,6 @@
 -- What the program answers: a matter of the words and the files. Own.
 use Rattle.std.specs.Prelude.{◌≡◌, ℕ, List, Some, None, Ok, Err, MatchResult}
-use Rattle.catalogue.specs.declared.faults.InputFault.TheVariants.{Fault, NoMemory}
+use Rattle.catalogue_rows.specs.declared.faults.InputFault.TheVariants.{Fault, NoMemory}
 use Rattle.assort_words.specs.declared.usage.Command.{Command}
 use Rattle.assort_words.specs.declared.usage.Command.TheVariants.{Solve, Check}
 use Rattle.assort_words.specs.Asked.{RequestData, asked_of}

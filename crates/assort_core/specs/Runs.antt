@@ -3,7 +3,7 @@ use Rattle.std.specs.Prelude.{◌≡◌, ◌⊎◌, ℕ, ◌≤◌, List, [], �
 use Rattle.offer_io.specs.Causes.{Rose}
 use Rattle.offer_io.specs.Stores.{StoreView, Stays}
 use Rattle.offer_io.specs.Sinks.{SinkView}
-use Rattle.catalogue.specs.declared.faults.FileName.{FileName}
+use Rattle.catalogue_rows.specs.declared.faults.FileName.{FileName}
 use Rattle.assort_words.specs.Asked.{RequestData}
 use Rattle.assort_core.specs.Lines.{unread_line, unwritten_line}
 use Rattle.assort_core.specs.Stages.{InputsData, Stage, stages}

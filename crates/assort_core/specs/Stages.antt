@@ -1,19 +1,20 @@
 -- The files that a request reads, as stages in the order of work: each a file, its name, and how its bytes are judged over
 -- what the files before it gave. A further file is a further stage. Own.
-use Rattle.std.specs.Prelude.{ℕ, List, [], ◌∷◌, Option, None, unwrap_or, Result, Ok, Err}
+use Rattle.std.specs.Prelude.{◌≡◌, ℕ, List, [], ◌∷◌, ◌++◌, map, Option, None, unwrap_or, Result, Ok, Err}
 use Rattle.offer_model.specs.declared.products.Limit.{Limit}
 use Rattle.offer_model.specs.declared.products.ModelName.{ModelName}
 use Rattle.offer_model.specs.declared.products.ModelName.TheVariants.{Logit, Attract, Mixed, Chain}
 use Rattle.offer_model.specs.Problems.{ProblemData}
-use Rattle.catalogue.specs.Sizes.{most_table}
-use Rattle.catalogue.specs.declared.faults.FileName.{FileName}
-use Rattle.catalogue.specs.declared.faults.FileName.TheVariants.{Products, Limits, Segments, Proof}
-use Rattle.catalogue.specs.declared.faults.InputFault.{InputFault}
-use Rattle.catalogue.specs.Rows.{RowData}
-use Rattle.catalogue.specs.ProductTables.{products_outcome}
+use Rattle.offer_model.specs.Validity.{HasLimits, IsPositiveAmount}
+use Rattle.catalogue_rows.specs.Sizes.{most_table}
+use Rattle.catalogue_rows.specs.declared.faults.FileName.{FileName}
+use Rattle.catalogue_rows.specs.declared.faults.FileName.TheVariants.{Products, Limits, Segments, Arcs, Proof, Offer}
+use Rattle.catalogue_rows.specs.declared.faults.InputFault.{InputFault}
+use Rattle.catalogue_rows.specs.Rows.{RowData, KeepsShadows}
+use Rattle.catalogue_rows.specs.ProductTables.{products_outcome}
 use Rattle.catalogue.specs.LimitTables.{limits_outcome}
 use Rattle.catalogue.specs.SegmentTables.{NamedSegment, segments_outcome}
-use Rattle.catalogue.specs.CatalogueProblems.{problem_data_of}
+use Rattle.catalogue.specs.CatalogueProblems.{FitSegments, problem_data_of}
 use Rattle.assort_words.specs.declared.usage.Command.{Command}
 use Rattle.assort_words.specs.declared.usage.Command.TheVariants.{Solve, Check}
 use Rattle.assort_words.specs.Asked.{RequestData, asked_model, asked_products, asked_limits, asked_segments, asked_none, asked_unit, asked_proof}
@@ -62,29 +63,30 @@ unit_of r = unit_under (model_asked r) (asked_unit r)
 
 -- ---- The stages.
 
-abbrev pub products_stage : RequestData → Stage
-products_stage r = record {
-  file = Products;
-  name = asked_products r;
-  most = most_table;
-  outcome = λ i bytes. with_part (products_outcome (model_asked r) bytes) (λ rows. record i { rows = rows });
-}
+-- The tables that a request may name, in the order of work.
+abbrev pub tables : List FileName
+tables = Products ∷ Limits ∷ Segments ∷ []
 
-abbrev pub limits_stage : RequestData → Stage
-limits_stage r = record {
-  file = Limits;
-  name = asked_limits r;
-  most = most_table;
-  outcome = λ i bytes. with_part (limits_outcome i.rows bytes) (λ limits. record i { limits = limits });
-}
+-- The name of a table, where the request gives one.
+abbrev pub table_name : FileName → RequestData → Option (List ℕ)
+table_name Products r = asked_products r
+table_name Limits r = asked_limits r
+table_name Segments r = asked_segments r
+table_name Arcs r = None
+table_name Proof r = None
+table_name Offer r = None
 
-abbrev pub segments_stage : RequestData → Stage
-segments_stage r = record {
-  file = Segments;
-  name = asked_segments r;
-  most = most_table;
-  outcome = λ i bytes. with_part (segments_outcome i.rows (unit_of r) bytes) (λ segments. record i { segments = segments });
-}
+-- What the bytes of a table give over what there is.
+abbrev pub table_outcome : FileName → RequestData → InputsData → List ℕ → Result InputsData InputFault
+table_outcome Products r i bytes = with_part (products_outcome (model_asked r) bytes) (λ rows. record i { rows = rows })
+table_outcome Limits r i bytes = with_part (limits_outcome i.rows bytes) (λ limits. record i { limits = limits })
+table_outcome Segments r i bytes = with_part (segments_outcome i.rows (unit_of r) bytes) (λ segments. record i { segments = segments })
+table_outcome Arcs r i bytes = Ok i
+table_outcome Proof r i bytes = Ok i
+table_outcome Offer r i bytes = Ok i
+
+abbrev pub table_stage : RequestData → FileName → Stage
+table_stage r file = record { file = file; name = table_name file r; most = most_table; outcome = table_outcome file r }
 
 -- The proof that a command reads, where it reads one.
 abbrev pub read_proof : Command → RequestData → Option (List ℕ)
@@ -106,14 +108,16 @@ proof_stage r = record {
 
 -- The stages of a request, in the order of work.
 abbrev pub stages : RequestData → List Stage
-stages r = products_stage r ∷ limits_stage r ∷ segments_stage r ∷ proof_stage r ∷ []
-
--- How many of them are tables: all but the proof.
-abbrev pub table_count : ℕ
-table_count = 3
+stages r = map (table_stage r) tables ++ proof_stage r ∷ []
 
 -- ---- What they make.
 
 -- The problem of a request over what its files give.
 abbrev pub asked_problem : RequestData → InputsData → ProblemData
 asked_problem r i = problem_data_of i.rows (model_asked r) (unwrap_or (asked_none r) 0) (unit_of r) i.segments i.limits
+
+-- What the tables give makes a problem: each reader answers only what may stand in one.
+pub record FitTogether (r : RequestData) (i : InputsData) : Type 0 where
+  pub shadows : model_asked r ≡ Attract → KeepsShadows i.rows
+  pub limits : (model : ModelName) (none unit : ℕ) (segments : List NamedSegment) → HasLimits (problem_data_of i.rows model none unit segments i.limits)
+  pub segments : IsPositiveAmount (unit_of r) → FitSegments i.rows (unit_of r) i.segments

@@ -1,10 +1,10 @@
 -- Why a run has no report, with the status and the line. Own.
 use Rattle.std.specs.Prelude.{◌≡◌, ℕ, ◌<◌, List, length, Some, IsTrue}
-use Rattle.catalogue.specs.declared.faults.Code.TheVariants.{TooLarge}
-use Rattle.catalogue.specs.declared.faults.FileName.{FileName}
-use Rattle.catalogue.specs.declared.faults.InputFault.{InputFault}
-use Rattle.catalogue.specs.declared.faults.InputFault.TheVariants.{Fault}
-use Rattle.catalogue.specs.declared.faults.InputFault.TheVariants as fault
+use Rattle.catalogue_rows.specs.declared.faults.Code.TheVariants.{TooLarge}
+use Rattle.catalogue_rows.specs.declared.faults.FileName.{FileName}
+use Rattle.catalogue_rows.specs.declared.faults.InputFault.{InputFault}
+use Rattle.catalogue_rows.specs.declared.faults.InputFault.TheVariants.{Fault}
+use Rattle.catalogue_rows.specs.declared.faults.InputFault.TheVariants as fault
 use Rattle.offer_io.specs.Stores.{StoreView}
 use Rattle.assort_words.specs.Asked.{RequestData}
 use Rattle.assort_core.specs.declared.stop.Stop.{Stop}

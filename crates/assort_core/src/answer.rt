@@ -11,8 +11,9 @@ use crate::means::Means;
 use crate::stop::Stop;
 use crate::task::Task;
 use assort_words::Command;
-use offer_io::Store;
+use offer_io::{Gate, Store};
 use offer_model::Bytes;
+use std::thread::Threads;
 
 /// A status and what is printed with it.
 #[derive(Drop)]
@@ -23,7 +24,7 @@ pub(crate) struct Answer {
 
 /// What a task prints, or why there is nothing to print.
 #[tactic(auto, using(crate::proofs::InputLemmas::files_stand, crate::proofs::CheckLemmas::check_others, crate::proofs::CheckLemmas::check_output, crate::proofs::CheckLemmas::check_sealed, crate::proofs::CheckLemmas::check_part, crate::proofs::CheckLemmas::check_endures))]
-pub(crate) fn answer_to<R, S: Store, G>(
+pub(crate) fn answer_to<R: Threads + Sync, S: Store, G: Gate + Sync>(
     means: &Means<'_, R, G>,
     task: &Task<'_>,
     store: &mut S,

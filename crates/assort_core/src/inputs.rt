@@ -1,30 +1,49 @@
 //! The files of a request, loaded and judged one after the other.
-ghost use Rattle.std.specs.Prelude.{◌≡◌, ◌≢◌, ◌≤◌, ℕ, List, [], Some, IfOk, IfErr, IsTrue, length};
-ghost use Rattle.offer_model.specs.declared.products.ModelName.{ModelName};
+ghost use Rattle.std.specs.Prelude.{◌≡◌, ◌≢◌, ◌≤◌, ◌<◌, ℕ, Some, Ok, Err, IfOk, IfErr, OnOk, IsTrue, length, slice_get};
 ghost use Rattle.offer_model.specs.declared.products.ModelName.TheVariants as model;
-ghost use Rattle.offer_model.specs.Validity.{HasLimits};
 ghost use Rattle.offer_io.specs.Stores.{Passes};
-ghost use Rattle.catalogue.specs.CatalogueProblems.{KeepsShadows, FitSegments, problem_data_of};
-ghost use Rattle.catalogue.specs.SegmentTables.{NamedSegment};
-ghost use Rattle.assort_core.specs.Stages.{no_inputs, table_count, model_asked, unit_of, asked_problem};
-ghost use Rattle.assort_core.specs.Judged.{GivesBefore};
+ghost use Rattle.catalogue_rows.specs.declared.faults.FileName.TheVariants.{Products};
+ghost use Rattle.catalogue_rows.specs.Faults.{OnFault};
+ghost use Rattle.catalogue_rows.specs.Sizes.{most_table};
+ghost use Rattle.assort_core.specs.Stages.{no_inputs, tables, table_outcome, table_stage, stages, asked_problem, FitTogether};
+ghost use Rattle.assort_core.specs.Judged.{stage_given, GivesBefore};
 ghost use Rattle.assort_core.specs.Stops.{WhyStopped, WhyUnloaded};
 
 use crate::stop::Stop;
 use crate::task::Task;
 use catalogue::{
-    Catalogue, Code, FileName, MOST_TABLE, SegmentTable, problem_of, read_limits, read_products,
-    read_segments,
+    Catalogue, Code, FileName, InputFault, MOST_TABLE, SegmentTable, problem_of, read_limits,
+    read_products, read_segments,
 };
 use offer_io::{LoadFault, Store, load};
 use offer_model::{Bytes, Limits, NoMemory, Problem};
 use std::alloc::Global;
+use std::marker::Model;
 
-/// What the tables of a request give.
+/// The tables that a request may name, in the order of work.
+pub(crate) const TABLES: [FileName; 3] = [FileName::Products, FileName::Limits, FileName::Segments];
+
+/// What the tables of a request give. A part whose table isn't named is empty.
+#[derive(Drop)]
+pub(crate) struct Tables {
+    pub(crate) catalogue: Catalogue,
+    limits: Limits,
+    segments: SegmentTable,
+}
+
+impl Model for Tables {
+    ghost use Rattle.std.specs.Prelude.{[]};
+    ghost use Rattle.assort_core.specs.Stages.{InputsData};
+
+    ghost Value = { InputsData };
+
+    ghost view = { λ t. record { rows = t.catalogue; limits = t.limits.items; segments = t.segments; proof = [] } };
+}
+
+/// The tables of a request, and the problem that they make.
 #[derive(Drop)]
 pub(crate) struct Inputs {
-    pub(crate) catalogue: Catalogue,
-    pub(crate) segments: SegmentTable,
+    pub(crate) tables: Tables,
     pub(crate) problem: Problem,
 }
 
@@ -50,132 +69,124 @@ pub(crate) fn load_input<S: Store>(
     }
 }
 
-/// The catalogue of the products file.
-fn read_catalogue<S: Store>(
+impl Tables {
+    /// What there is before any table.
+    fn empty(alloc: Global) -> Tables
+        ensures { result ≡ no_inputs }
+    {
+        Tables {
+            catalogue: Catalogue::empty(alloc),
+            limits: Limits::new(alloc),
+            segments: SegmentTable::empty(alloc),
+        }
+    }
+
+    /// Takes over what the bytes of a table give.
+    fn put(
+        &mut self,
+        alloc: Global,
+        task: &Task<'_>,
+        file: FileName,
+        bytes: &[u8],
+    ) -> Result<(), InputFault>
+        requires first { file ≡ Products → self.old ≡ no_inputs }
+        requires fit { FitTogether task.now self.old }
+        requires size { length bytes.now ≤ most_table }
+        ensures given { OnOk result (table_outcome file task.now self.old bytes.now ≡ Ok self.new) }
+        ensures fit { OnOk result (FitTogether task.now self.new) }
+        ensures fault { IfErr result (λ e. OnFault e (table_outcome file task.now self.old bytes.now ≡ Err e)) }
+    {
+        match file {
+            FileName::Products => self.catalogue = read_products(alloc, bytes, task.model())?,
+            FileName::Limits => self.limits = read_limits(alloc, bytes, &self.catalogue)?,
+            FileName::Segments => {
+                self.segments = read_segments(alloc, bytes, &self.catalogue, task.unit())?;
+            }
+            FileName::Arcs | FileName::Proof | FileName::Offer => {}
+        }
+        Ok(())
+    }
+}
+
+/// Reads a table where the request names it.
+fn read_table<S: Store>(
     alloc: Global,
     task: &Task<'_>,
     store: &mut S,
-) -> Result<Catalogue, Stop>
+    file: FileName,
+    tables: &mut Tables,
+) -> Result<(), Stop>
+    requires first { file ≡ Products → tables.old ≡ no_inputs }
+    requires fit { FitTogether task.now tables.old }
     ensures passes { Passes (S.view store.old) (S.view store.new) }
-    ensures given { IfOk result (λ c. IsTrue (S.view store.old).tells
-        → GivesBefore 1 task.now (S.view store.old) (record no_inputs { rows = c })) }
-    ensures shadows { IfOk result (λ c. model_asked task.now ≡ model.Attract → KeepsShadows c) }
-    ensures stopped { IfErr result (WhyStopped task.now (S.view store.old) (S.view store.new)) }
+    ensures given { OnOk result (IsTrue (S.view store.old).tells
+        → stage_given (table_stage task.now file) tables.old (S.view store.old).file ≡ Some (Ok tables.new)) }
+    ensures fit { OnOk result (FitTogether task.now tables.new) }
+
+    // Where this is stage k, and the stages before it give what there is.
+    ensures stopped { IfErr result (λ stop. (k : ℕ) → slice_get (stages task.now) k ≡ Some (table_stage task.now file)
+        → (IsTrue (S.view store.old).tells → GivesBefore k task.now (S.view store.old) tables.old)
+        → WhyStopped task.now (S.view store.old) (S.view store.new) stop) }
 {
-    let name = task.products();
-    let bytes = match load_input(alloc, store, FileName::Products, name, MOST_TABLE) {
+    let Some(name) = task.table(file) else {
+        return Ok(());
+    };
+    let bytes = match load_input(alloc, store, file, name, MOST_TABLE) {
         Err(stop) => return Err(stop),
         Ok(bytes) => bytes,
     };
-    Ok(read_products(alloc, bytes.as_slice(), task.model())?)
+    Ok(tables.put(alloc, task, file, bytes.as_slice())?)
 }
 
-/// The limits of the limits file, or none where there is no such file.
-fn read_request_limits<S: Store>(
-    alloc: Global,
-    task: &Task<'_>,
-    store: &mut S,
-    c: &Catalogue,
-) -> Result<Limits, Stop>
-    requires before { IsTrue (S.view store.old).tells
-        → GivesBefore 1 task.now (S.view store.old) (record no_inputs { rows = c.now }) }
+/// What the tables of a request give, one after the other.
+fn read_tables<S: Store>(alloc: Global, task: &Task<'_>, store: &mut S) -> Result<Tables, Stop>
     ensures passes { Passes (S.view store.old) (S.view store.new) }
-    ensures given { IfOk result (λ limits. IsTrue (S.view store.old).tells
-        → GivesBefore 2 task.now (S.view store.old) (record no_inputs { rows = c.now; limits = limits.items })) }
-    ensures fit { IfOk result (λ limits. (model : ModelName) (none unit : ℕ) (segments : List NamedSegment)
-        → HasLimits (problem_data_of c.now model none unit segments limits.items)) }
+    ensures given { IfOk result (λ t. IsTrue (S.view store.old).tells → GivesBefore (length tables) task.now (S.view store.old) t) }
+    ensures fit { IfOk result (FitTogether task.now) }
     ensures stopped { IfErr result (WhyStopped task.now (S.view store.old) (S.view store.new)) }
 {
-    let Some(name) = task.limits() else {
-        return Ok(Limits::new(alloc));
-    };
-    let bytes = match load_input(alloc, store, FileName::Limits, name, MOST_TABLE) {
-        Err(stop) => return Err(stop),
-        Ok(bytes) => bytes,
-    };
-    Ok(read_limits(alloc, bytes.as_slice(), c)?)
+    let mut tables = Tables::empty(alloc);
+    for k in 0..TABLES.len() {
+        match read_table(alloc, task, store, TABLES[k], &mut tables) {
+            Err(stop) => return Err(stop),
+            Ok(()) => {}
+        }
+    }
+    Ok(tables)
 }
 
-/// The segments of the segments file, or none where there is no such file.
-fn read_request_segments<S: Store>(
-    alloc: Global,
-    task: &Task<'_>,
-    store: &mut S,
-    c: &Catalogue,
-    limits: &Limits,
-) -> Result<SegmentTable, Stop>
-    requires before { IsTrue (S.view store.old).tells
-        → GivesBefore 2 task.now (S.view store.old) (record no_inputs { rows = c.now; limits = limits.now.items }) }
-    ensures passes { Passes (S.view store.old) (S.view store.new) }
-    ensures given { IfOk result (λ segments. IsTrue (S.view store.old).tells
-        → GivesBefore 3 task.now (S.view store.old) (record no_inputs { rows = c.now; limits = limits.now.items; segments = segments })) }
-    ensures fit { IfOk result (λ segments. model_asked task.now ≡ model.Mixed → FitSegments c.now (unit_of task.now) segments) }
-    ensures stopped { IfErr result (WhyStopped task.now (S.view store.old) (S.view store.new)) }
-{
-    let Some(name) = task.segments() else {
-        return Ok(SegmentTable::empty(alloc));
-    };
-    let bytes = match load_input(alloc, store, FileName::Segments, name, MOST_TABLE) {
-        Err(stop) => return Err(stop),
-        Ok(bytes) => bytes,
-    };
-    Ok(read_segments(alloc, bytes.as_slice(), c, task.unit())?)
-}
-
-/// The problem of a catalogue, limits and segments.
-fn problem_asked(
-    alloc: Global,
-    task: &Task<'_>,
-    c: &Catalogue,
-    limits: &Limits,
-    segments: &SegmentTable,
-) -> Result<Problem, NoMemory>
-    requires shadows { model_asked task.now ≡ model.Attract → KeepsShadows c.now }
-    requires limits { (model : ModelName) (none unit : ℕ) (segments : List NamedSegment)
-        → HasLimits (problem_data_of c.now model none unit segments limits.now.items) }
-    requires segments { model_asked task.now ≡ model.Mixed → FitSegments c.now (unit_of task.now) segments.now }
-    ensures { IfOk result (λ p. p ≡ asked_problem task.now (record no_inputs { rows = c.now; limits = limits.now.items; segments = segments.now })) }
+/// The problem that the tables make.
+fn problem_asked(alloc: Global, task: &Task<'_>, tables: &Tables) -> Result<Problem, NoMemory>
+    requires { FitTogether task.now tables.now }
+    ensures { IfOk result (λ p. p ≡ asked_problem task.now tables.now) }
 {
     problem_of(
         alloc,
-        c,
+        &tables.catalogue,
         task.model(),
         task.none(),
         task.unit(),
-        segments,
-        limits,
+        &tables.segments,
+        &tables.limits,
     )
 }
 
-/// The catalogue and the problem that a request asks for.
+/// What a request's tables give, and the problem that they make.
 pub(crate) fn read_inputs<S: Store>(
     alloc: Global,
     task: &Task<'_>,
     store: &mut S,
 ) -> Result<Inputs, Stop>
     ensures passes { Passes (S.view store.old) (S.view store.new) }
-    ensures problem { IfOk result (λ i. i.problem ≡ asked_problem task.now (record { rows = i.catalogue; limits = i.problem.limits; segments = i.segments; proof = [] })) }
+    ensures problem { IfOk result (λ i. i.problem ≡ asked_problem task.now i.tables) }
     ensures model { IfOk result (λ i. i.problem.model ≢ model.Chain) }
-    ensures given { IfOk result (λ i. IsTrue (S.view store.old).tells
-        → GivesBefore table_count task.now (S.view store.old) (record { rows = i.catalogue; limits = i.problem.limits; segments = i.segments; proof = [] })) }
+    ensures given { IfOk result (λ i. IsTrue (S.view store.old).tells → GivesBefore (length tables) task.now (S.view store.old) i.tables) }
     ensures stopped { IfErr result (WhyStopped task.now (S.view store.old) (S.view store.new)) }
 {
-    let catalogue = match read_catalogue(alloc, task, store) {
+    let tables = match read_tables(alloc, task, store) {
         Err(stop) => return Err(stop),
-        Ok(catalogue) => catalogue,
+        Ok(tables) => tables,
     };
-    let limits = match read_request_limits(alloc, task, store, &catalogue) {
-        Err(stop) => return Err(stop),
-        Ok(limits) => limits,
-    };
-    let segments = match read_request_segments(alloc, task, store, &catalogue, &limits) {
-        Err(stop) => return Err(stop),
-        Ok(segments) => segments,
-    };
-    let problem = problem_asked(alloc, task, &catalogue, &limits, &segments)?;
-    Ok(Inputs {
-        catalogue,
-        segments,
-        problem,
-    })
+    let problem = problem_asked(alloc, task, &tables)?;
+    Ok(Inputs { tables, problem })
 }

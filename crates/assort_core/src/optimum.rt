@@ -1,26 +1,30 @@
 //! The best assortment and its certificate, by the step of the limits' kind.
-ghost use Rattle.std.specs.Prelude.{◌≡◌, ◌<◌, IfOk, OnOk, IsErrOf, IsTrue};
+ghost use Rattle.std.specs.Prelude.{◌≡◌, ◌<◌, ◌≤◌, IfOk, OnOk, IsErrOf, IsTrue};
 ghost use Rattle.offer_model.specs.Best.{IsBest};
+ghost use Rattle.offer_model.specs.declared.products.ModelName.TheVariants.{Mixed};
 ghost use Rattle.offer_model.specs.Problems.{ProblemData};
 ghost use Rattle.offer_model.specs.Validity.{IsRatioModel};
 ghost use Rattle.offer_io.specs.Causes.{Rose};
 ghost use Rattle.proof_write.specs.Outputs.{HasWritten, HasWrittenPart};
 ghost use Rattle.proof_write.specs.declared.faults.ProofFault.TheVariants as ProofFault;
 
+use crate::means::Means;
 use cut_step::ClosureStep;
 use limit_rules::{Kind, kind_of};
 use linear_step::{Closer, Step, Steps};
-use offer_io::Store;
+use offer_io::{Gate, Store};
 use offer_model::{Assortment, ModelName, NoMemory, Problem};
 use proof_write::{ProofFault, write_mixed_proof, write_ratio_proof, write_search_proof};
 use rank_step::{CapsStep, FreeStep};
 use ratio_loop::best_ratio;
-use segment_bound::best_mixed;
+use segment_bound::TangentGoal;
 use std::alloc::Global;
 use std::marker::Brand;
 use std::sync::ledger::{Blank, Ledger};
+use std::thread::Threads;
 use table_steps::{LadderStep, ShelfStep};
 use tree_search::SearchStep;
+use worker_rounds::search_together;
 
 /// How the best assortment of a problem is found: the step of its limits' kind, which also closes the leaves of the
 /// certificate.
@@ -60,6 +64,24 @@ impl Fit for Method {
     ] };
 }
 
+/// The best assortment under mixed logit, found by so many workers.
+#[tactic(auto, using(crate::proofs::MixedLemmas::in_range, crate::proofs::MixedLemmas::best_from_top))]
+fn best_mixed<R: Threads + Sync, G: Gate + Sync>(
+    means: &Means<'_, R, G>,
+    workers: u64,
+    p: &Problem,
+) -> Result<Assortment, NoMemory>
+    requires model { p.now.model ≡ Mixed }
+    requires workers { (1 ≤ workers) × (workers ≤ 64) }
+    ensures { IfOk result (IsBest p.now) }
+{
+    let mut goal = TangentGoal::prepare(means.alloc, p)?;
+    match search_together(means.rt, means.alloc, &mut goal, workers, means.gate)? {
+        Some(best) => Ok(best),
+        None => unreachable!(),
+    }
+}
+
 impl Method {
     /// The method of a problem.
     pub(crate) fn prepare(alloc: Global, p: &Problem) -> Result<Method, NoMemory>
@@ -88,19 +110,22 @@ impl Method {
     }
 
     /// The best assortment, with its steps counted in a ledger.
-    fn best_counted<L: Ledger>(
+    fn best_counted<L: Ledger, R: Threads + Sync, G: Gate + Sync>(
         &mut self,
-        alloc: Global,
+        means: &Means<'_, R, G>,
+        workers: u64,
         p: &Problem,
         blank: Blank,
     ) -> Result<Assortment, NoMemory>
         requires fits { ⟦<Method as Fit>⟧.fits self.old p.now }
+        requires workers { (1 ≤ workers) × (workers ≤ 64) }
         requires name { blank.name ≡ L.name }
         requires parts { blank.parts ≡ L.parts }
         requires some { 0 < blank.parts }
         ensures best { IfOk result (IsBest p.now) }
         ensures fits { ⟦<Method as Fit>⟧.fits self.new p.now }
     {
+        let alloc = means.alloc;
         let mut steps = Steps::<L>::start(blank);
         match self {
             Method::Free(step) => best_ratio(alloc, step, p, &mut steps),
@@ -109,17 +134,23 @@ impl Method {
             Method::Shelf(step) => best_ratio(alloc, step, p, &mut steps),
             Method::Ladder(step) => best_ratio(alloc, step, p, &mut steps),
             Method::General(step) => best_ratio(alloc, step, p, &mut steps),
-            Method::Mixed => best_mixed(alloc, p),
+            Method::Mixed => best_mixed(means, workers, p),
         }
     }
 
-    /// The best assortment.
-    pub(crate) fn best(&mut self, alloc: Global, p: &Problem) -> Result<Assortment, NoMemory>
+    /// The best assortment. Under mixed logit so many workers search for it.
+    pub(crate) fn best<R: Threads + Sync, G: Gate + Sync>(
+        &mut self,
+        means: &Means<'_, R, G>,
+        workers: u64,
+        p: &Problem,
+    ) -> Result<Assortment, NoMemory>
         requires fits { ⟦<Method as Fit>⟧.fits self.old p.now }
+        requires workers { (1 ≤ workers) × (workers ≤ 64) }
         ensures best { IfOk result (IsBest p.now) }
         ensures fits { ⟦<Method as Fit>⟧.fits self.new p.now }
     {
-        self.best_counted::<Brand>(alloc, p, Blank::new(1))
+        self.best_counted::<Brand, R, G>(means, workers, p, Blank::new(1))
     }
 
     /// Appends the certificate of the best assortment to the open output.

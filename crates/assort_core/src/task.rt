@@ -1,13 +1,14 @@
 //! A request with all that its command needs.
-ghost use Rattle.std.specs.Prelude.{◌≡◌, ◌≢◌, Some, IsSome, unwrap_or};
+ghost use Rattle.std.specs.Prelude.{◌≡◌, ◌≢◌, ◌≤◌, Some, unwrap_or};
 ghost use Rattle.std.specs.Option.{option_copied};
 ghost use Rattle.offer_model.specs.Validity.{IsPositiveAmount, IsRatioModel};
 ghost use Rattle.offer_model.specs.declared.products.ModelName.TheVariants as name;
 ghost use Rattle.assort_words.specs.declared.usage.Command.TheVariants as command;
-ghost use Rattle.assort_words.specs.Asked.{asked_of, asked_products, asked_limits, asked_segments, asked_none, asked_proof};
-ghost use Rattle.assort_core.specs.Stages.{model_asked, unit_of};
+ghost use Rattle.assort_words.specs.Asked.{asked_of, asked_none, asked_proof};
+ghost use Rattle.assort_core.specs.Stages.{model_asked, unit_of, table_name};
 
 use assort_words::{Command, Request, UsageFault, read_words};
+use catalogue::FileName;
 use offer_model::{ModelName, Texts};
 use std::marker::Model;
 
@@ -44,24 +45,16 @@ impl<'a> Task<'a> {
         self.request.model().unwrap()
     }
 
-    pub(crate) fn products(&self) -> &'a str
-        ensures { asked_products self.now ≡ Some result.now }
+    /// The name of a table, where the request gives one.
+    pub(crate) fn table(&self, file: FileName) -> Option<&'a str>
+        ensures { option_copied result ≡ table_name file self.now }
     {
-        self.request.products().unwrap()
-    }
-
-    pub(crate) fn limits(&self) -> Option<&'a str>
-        ensures { option_copied result ≡ asked_limits self.now }
-    {
-        self.request.limits()
-    }
-
-    /// The segments file, which there is under mixed logit.
-    pub(crate) fn segments(&self) -> Option<&'a str>
-        ensures value { option_copied result ≡ asked_segments self.now }
-        ensures some { model_asked self.now ≡ name.Mixed → IsSome result }
-    {
-        self.request.segments()
+        match file {
+            FileName::Products => self.request.products(),
+            FileName::Limits => self.request.limits(),
+            FileName::Segments => self.request.segments(),
+            FileName::Arcs | FileName::Proof | FileName::Offer => None,
+        }
     }
 
     /// The weight of buying nothing, 0 under mixed logit.
@@ -81,6 +74,13 @@ impl<'a> Task<'a> {
             ModelName::Mixed => self.request.unit().unwrap_or(USUAL_UNIT),
             ModelName::Logit | ModelName::Attract | ModelName::Chain => 1,
         }
+    }
+
+    /// The number of threads that search, 1 where none is given.
+    pub(crate) fn workers(&self) -> u64
+        ensures { (1 ≤ result) × (result ≤ 64) }
+    {
+        self.request.workers().unwrap_or(1)
     }
 
     /// The name of the proof that is written, where one is asked for.

@@ -69,7 +69,7 @@ fn print<O: Sink, E: Sink>(out: &mut O, err: &mut E, answer: &Answer) -> u8
 /// All that the program does. It answers the status; every call returns.
 ///
 /// The words are those after the program's name. A report is made in memory and written to `out` at once, a line on
-/// what went wrong to `err`. No command has workers yet, so `rt` and `gate` are only handed down.
+/// what went wrong to `err`. Workers run on the threads of `rt`, and pass the gate before each task.
 pub fn run<R: Threads + Sync, S: Store, O: Sink, E: Sink, G: Gate + Sync>(
     rt: &R,
     alloc: Global,

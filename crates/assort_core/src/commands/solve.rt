@@ -1,5 +1,5 @@
 //! The command `solve`: the best assortment, its report, and its certificate where one is asked for.
-ghost use Rattle.std.specs.Prelude.{◌≡◌, length, IfOk, IfErr, OnOk, OnErr, IsTrue};
+ghost use Rattle.std.specs.Prelude.{◌≡◌, ◌≤◌, length, IfOk, IfErr, OnOk, OnErr, IsTrue};
 ghost use Rattle.offer_model.specs.Best.{IsBest};
 ghost use Rattle.offer_model.specs.Problems.{product_count};
 ghost use Rattle.assort_words.specs.declared.usage.Command.TheVariants as command;
@@ -17,9 +17,9 @@ use crate::output_file::write_proof;
 use crate::stop::Stop;
 use crate::task::Task;
 use assort_reports::report_problem;
-use offer_io::Store;
+use offer_io::{Gate, Store};
 use offer_model::{Assortment, Bytes, NoMemory};
-use std::alloc::Global;
+use std::thread::Threads;
 
 fn done(report: Bytes) -> Answer
     ensures status { result.status ≡ 0 }
@@ -36,15 +36,21 @@ struct Solution {
     method: Method,
 }
 
-fn solution_of(alloc: Global, inputs: &Inputs) -> Result<Solution, NoMemory>
-    requires products { product_count inputs.now.problem ≡ length inputs.now.catalogue }
+fn solution_of<R: Threads + Sync, G: Gate + Sync>(
+    means: &Means<'_, R, G>,
+    workers: u64,
+    inputs: &Inputs,
+) -> Result<Solution, NoMemory>
+    requires workers { (1 ≤ workers) × (workers ≤ 64) }
+    requires products { product_count inputs.now.problem ≡ length inputs.now.tables.rows }
     ensures best { IfOk result (λ s. IsBest inputs.now.problem s.best) }
-    ensures report { IfOk result (λ s. s.report.items ≡ problem_report inputs.now.catalogue inputs.now.problem s.best) }
+    ensures report { IfOk result (λ s. s.report.items ≡ problem_report inputs.now.tables.rows inputs.now.problem s.best) }
     ensures fits { IfOk result (λ s. ⟦<Method as Fit>⟧.fits s.method inputs.now.problem) }
 {
+    let alloc = means.alloc;
     let mut method = Method::prepare(alloc, &inputs.problem)?;
-    let best = method.best(alloc, &inputs.problem)?;
-    let report = report_problem(alloc, &inputs.catalogue, &inputs.problem, &best)?;
+    let best = method.best(means, workers, &inputs.problem)?;
+    let report = report_problem(alloc, &inputs.tables.catalogue, &inputs.problem, &best)?;
     Ok(Solution {
         best,
         report,
@@ -53,7 +59,7 @@ fn solution_of(alloc: Global, inputs: &Inputs) -> Result<Solution, NoMemory>
 }
 
 /// What `solve` prints, after the proof that is asked for was written.
-pub(crate) fn solve<R, S: Store, G>(
+pub(crate) fn solve<R: Threads + Sync, S: Store, G: Gate + Sync>(
     means: &Means<'_, R, G>,
     task: &Task<'_>,
     store: &mut S,
@@ -77,7 +83,7 @@ pub(crate) fn solve<R, S: Store, G>(
         Err(stop) => return Err(stop),
         Ok(inputs) => inputs,
     };
-    let mut solution = solution_of(means.alloc, &inputs)?;
+    let mut solution = solution_of(means, task.workers(), &inputs)?;
     let Some(name) = proof else {
         return Ok(done(solution.report));
     };

@@ -1,11 +1,10 @@
-use Rattle.std.proofs.Common.{[]}
 use Rattle.assort_core.proofs.CheckLemmas.{check_answer, proof_unloaded}
 use Rattle.assort_core.proofs.commands.check.check.Goals as goal
 
 pub returns-clause-answer : goal.returns-clause-answer
 returns-clause-answer g c =
     check_answer c.args.task.now (g.S.Store.view c.args.store.now) (g.S.Store.view c.read_inputs.new.store)
-    (record { rows = c.in-Ok.inputs.catalogue; limits = c.in-Ok.inputs.problem.limits; segments = c.in-Ok.inputs.segments; proof = [] }) c.in-Ok.inputs.problem
+    c.in-Ok.inputs.tables c.in-Ok.inputs.problem
     c.checked_proof.result.now c.in-Ok-load_input.text.items c.in_ok-verdict.field-0.report.items c.in_ok-accepted.accepted c.in_ok-verdict.field-0.status
     c.requires c.checked_proof.ensures c.in-Ok.ensures.problem c.in-Ok.ensures.model c.read_inputs.ensures.passes c.in-Ok.ensures.given c.in-Ok-load_input.ensures.content
     c.in-Ok-load_input.ensures.fits (rw c.as_slice.ensures at c.in_ok-accepted.ensures) c.in_ok-verdict.ensures.status c.in_ok-verdict.ensures.report
@@ -13,5 +12,5 @@ returns-clause-answer g c =
 pub returns-in-Err-load_input-clause-stopped : goal.returns-in-Err-load_input-clause-stopped
 returns-in-Err-load_input-clause-stopped g c =
     proof_unloaded c.in-Err-load_input.stop c.args.task.now (g.S.Store.view c.args.store.now) (g.S.Store.view c.read_inputs.new.store) (g.S.Store.view c.load_input.new.store)
-    (record { rows = c.in-Ok.inputs.catalogue; limits = c.in-Ok.inputs.problem.limits; segments = c.in-Ok.inputs.segments; proof = [] }) c.checked_proof.result.now
+    c.in-Ok.inputs.tables c.checked_proof.result.now
     c.requires c.checked_proof.ensures c.read_inputs.ensures.passes c.in-Ok.ensures.given c.in-Err-load_input.ensures.stopped

@@ -1,4 +1,4 @@
 use Rattle.assort_core.proofs.optimum.Method.best.Given as goal
 
 abbrev pub ghosts-best_counted : goal.ghosts-best_counted
-ghosts-best_counted a = record { name = a.blank.name; parts = a.blank.parts }
+ghosts-best_counted g a = record { name = a.blank.name; parts = a.blank.parts }
