@@ -2,7 +2,7 @@
 """Measures solve, certificates and check under mixed logit beside HiGHS, GLPK and CBC on the usual mixed-integer model. See README.md.
 
 The model: x_i is whether product i is offered, y0 the chance of buying nothing in a segment, z_i = x_i * y0 there, so that product i is
-bought with the chance (v_i / v_0) * z_i. A cap K on all products is the row sum z_i <= K * y0 of each segment."""
+bought with the chance (v_i / v_0) * z_i. A cap K on some products is the row sum z_i <= K * y0 over these in each segment."""
 import os
 import random
 import subprocess
@@ -28,15 +28,23 @@ def words_from(seed):
 
 
 class Mixed:
-    """Margins, segments as (size, weight of buying nothing, attractions), and a cap on all products, None without one."""
+    """Margins, segments as (size, weight of buying nothing, attractions), a cap on all products, None without one, and by category
+    its products and their cap."""
 
-    def __init__(self, name, margins, segments, cap):
-        self.name, self.margins, self.segments, self.cap = name, margins, segments, cap
+    def __init__(self, name, margins, segments, cap, categories=()):
+        self.name, self.margins, self.segments, self.cap, self.categories = name, margins, segments, cap, categories
+
+    def caps(self):
+        """Each cap with its products."""
+        whole = [] if self.cap is None else [(list(range(len(self.margins))), self.cap)]
+        return whole + list(self.categories)
 
     def write(self, folder):
         n = len(self.margins)
         with open(os.path.join(folder, 'products.csv'), 'w') as f:
-            f.write('name,margin\n' + ''.join('p%d,%d\n' % (i, self.margins[i]) for i in range(n)))
+            of = {i: 'c%d' % c for c, (products, _) in enumerate(self.categories) for i in products}
+            f.write('name,margin%s\n' % (',category' if of else ''))
+            f.write(''.join('p%d,%d%s\n' % (i, self.margins[i], ',' + of[i] if of else '') for i in range(n)))
         with open(os.path.join(folder, 'segments.csv'), 'w') as f:
             f.write('segment,product,size,attraction\n')
             for g, (size, none, attractions) in enumerate(self.segments):
@@ -44,6 +52,7 @@ class Mixed:
                 f.write(''.join('g%d,p%d,,%d\n' % (g, i, v) for i, v in enumerate(attractions) if v))
         with open(os.path.join(folder, 'limits.csv'), 'w') as f:
             f.write('kind,first,second,number\n' + ('' if self.cap is None else 'total,,,%d\n' % self.cap))
+            f.write(''.join('category,c%d,,%d\n' % (c, cap) for c, (_, cap) in enumerate(self.categories)))
 
 
 def trial(n, seed):
@@ -63,6 +72,31 @@ def reluctant(n, seed):
     margins = [draw.randint(1, 1000) for _ in range(n)]
     segments = [(draw.randint(1, 10), draw.randint(1000, 1999), [draw.randint(0, 99) for _ in range(n)]) for _ in range(4)]
     return Mixed('reluctant, %d products, seed %d' % (n, seed), margins, segments, n // 3 + 1)
+
+
+def sparse(n, seed):
+    """The same, with two thirds of the attractions 0."""
+    draw = random.Random(seed)
+    margins = [draw.randint(1, 1000) for _ in range(n)]
+    attraction = lambda: draw.randint(0, 99) if draw.randrange(3) == 0 else 0
+    segments = [(draw.randint(1, 10), draw.randint(1000, 1999), [attraction() for _ in range(n)]) for _ in range(4)]
+    return Mixed('sparse, %d products, seed %d' % (n, seed), margins, segments, n // 3 + 1)
+
+
+def many(n, seed):
+    """Ten segments, each with the weight 500 of buying nothing."""
+    draw = random.Random(seed)
+    margins = [draw.randint(1, 1000) for _ in range(n)]
+    segments = [(draw.randint(1, 10), 500, [draw.randint(0, 99) for _ in range(n)]) for _ in range(10)]
+    return Mixed('many segments, %d products, seed %d' % (n, seed), margins, segments, n // 5 + 1)
+
+
+def categories(n, seed):
+    """The products of `reluctant` in n / 4 categories, each with a cap of 1 or 2, and no cap on all."""
+    case, draw = reluctant(n, seed), random.Random(seed)
+    count = max(1, n // 4)
+    parts = [([i for i in range(n) if i % count == c], draw.randint(1, 2)) for c in range(count)]
+    return Mixed('categories, %d products, seed %d' % (n, seed), case.margins, case.segments, None, parts)
 
 
 def words_of(folder, command, proof=None):
@@ -90,10 +124,10 @@ def model_of(case):
             rows.append(({z + i: 1.0, y: -1.0}, '<=', 0.0))
             rows.append(({z + i: 1.0, i: -none / (none + v)}, '<=', 0.0))
             rows.append(({y: 1.0, z + i: -1.0, i: 1.0}, '<=', 1.0))
-        if case.cap is not None:
-            rows.append(({y: -float(case.cap), **{z + i: 1.0 for i in range(n)}}, '<=', 0.0))
-    if case.cap is not None:
-        rows.append(({i: 1.0 for i in range(n)}, '<=', float(case.cap)))
+        for products, cap in case.caps():
+            rows.append(({y: -float(cap), **{z + i: 1.0 for i in products}}, '<=', 0.0))
+    for products, cap in case.caps():
+        rows.append(({i: 1.0 for i in products}, '<=', float(cap)))
     return total, objective, rows
 
 
@@ -168,9 +202,13 @@ def main():
     parser = options(__doc__)
     parser.add_argument('--trial', type=int, nargs='*', default=[32, 64, 128], help='how many products, for each a row of trial inputs')
     parser.add_argument('--reluctant', type=int, nargs='*', default=[16, 24, 32], help='how many products, for each a row where most buy nothing')
+    parser.add_argument('--sparse', type=int, nargs='*', default=[24, 48], help='how many products, for each a row where most buy nothing and two thirds of the attractions are 0')
+    parser.add_argument('--many', type=int, nargs='*', default=[32], help='how many products, for each a row of ten segments')
+    parser.add_argument('--categories', type=int, nargs='*', default=[32], help='how many products, for each a row under category caps')
     parser.add_argument('--seconds', type=int, default=60, help='how long a piece of work may take')
     given = parser.parse_args()
-    cases = [trial(n, 7) for n in given.trial] + [reluctant(n, 7) for n in given.reluctant]
+    families = [(trial, given.trial), (reluctant, given.reluctant), (sparse, given.sparse), (many, given.many), (categories, given.categories)]
+    cases = [family(n, 7) for family, counts in families for n in counts]
     lines = ['Milliseconds, the least of %d; in brackets how many times the time of solve. The peers run once, at most %d seconds. Nodes are those of one solve without a certificate.' % (REPEATS, given.seconds),
              '', machine(), '',
              '| input | solve | nodes | solve with a certificate | check | its lines | its bytes | HiGHS | GLPK | CBC |', '|---|---|---|---|---|---|---|---|---|---|']
