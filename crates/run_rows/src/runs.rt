@@ -1,7 +1,7 @@
 //! One run over a store, with sinks in memory.
 
 use assort_core::run;
-use offer_io::{MemorySink, OpenGate, Store};
+use offer_io::{Gate, MemorySink, OpenGate, Store};
 use offer_model::Texts;
 use std::alloc::Global;
 use std::test::Fail;
@@ -41,7 +41,7 @@ pub(crate) fn texts(alloc: Global, line: &str) -> Result<Texts, Fail> {
     Ok(words)
 }
 
-/// A run of these words over a store.
+/// A run of these words over a store, with a gate that holds nobody up.
 pub(crate) fn run_over<R: Threads + Sync, S: Store>(
     rt: &R,
     alloc: Global,
@@ -49,10 +49,22 @@ pub(crate) fn run_over<R: Threads + Sync, S: Store>(
     store: &mut S,
     failing: Failing,
 ) -> Result<Said, Fail> {
+    run_by(rt, alloc, line, store, failing, &OpenGate)
+}
+
+/// A run of these words over a store, whose workers pass this gate.
+pub(crate) fn run_by<R: Threads + Sync, S: Store, G: Gate + Sync>(
+    rt: &R,
+    alloc: Global,
+    line: &str,
+    store: &mut S,
+    failing: Failing,
+    gate: &G,
+) -> Result<Said, Fail> {
     let words = texts(alloc, line)?;
     let mut out = sink(alloc, failing.out)?;
     let mut err = sink(alloc, failing.err)?;
-    let status = run(rt, alloc, &words, store, &mut out, &mut err, &OpenGate);
+    let status = run(rt, alloc, &words, store, &mut out, &mut err, gate);
     Ok(Said {
         status,
         out: Vec::from_slice(alloc, out.bytes())?,

@@ -6,7 +6,7 @@ use Rattle.offer_model.specs.declared.node.Mark.{Mark}
 use Rattle.offer_model.specs.declared.node.Mark.TheVariants.{In, Out, Open}
 use Rattle.offer_model.specs.Assortments.{offers}
 use Rattle.offer_model.specs.Nodes.{mark_at}
-use Rattle.worker_rounds.specs.Rounds.{IsSmall, AnswersInRange}
+use Rattle.tree_search.specs.AnswerRanges.{IsSmall, AnswersInRange}
 use Rattle.search_rows.specs.WorkedGoals.{CountingData, counting_rules, offered_of, left_of, one_unless_out}
 
 offered_once : (b : Bool) → cond b 1 0 ≤ 1

@@ -1,4 +1,5 @@
 pub mod Goals
+pub mod AnswerRanges
 pub mod Tasks
 pub mod Turns
 pub mod Rooms

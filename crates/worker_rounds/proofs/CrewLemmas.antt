@@ -8,7 +8,8 @@ use Rattle.tree_search.specs.Turns.{Walk, IsSound}
 use Rattle.tree_search.specs.Progress.{IsFeasibleBest}
 use Rattle.shared_best.specs.Places.{DeskData, PlaceData, BelongsTo}
 use Rattle.worker_rounds.specs.declared.crew.Worker.{Worker}
-use Rattle.worker_rounds.specs.Rounds.{AnswersInRange, IsBacked, IsIn, Round}
+use Rattle.tree_search.specs.AnswerRanges.{AnswersInRange}
+use Rattle.worker_rounds.specs.Rounds.{IsBacked, IsIn, Round}
 use Rattle.worker_rounds.specs.Crews.{Each, AnyOf, Pairwise, IsWorkerBusy, shares, HasClaim, WorkerHas, CoversClaims, HasNoClaims, HasProducts, SameButNodes, SharesNodes, IsReady, WorkerRound, IsMember, IsCrew}
 use Rattle.worker_rounds.proofs.ListLemmas.{each_map, each_along, any_along, any_or, pairwise_length, pairwise_map}
 use Rattle.worker_rounds.proofs.RoundLemmas.{IsIn-append, kept_covers, holds_more}

@@ -8,7 +8,8 @@ use Rattle.tree_search.specs.Sizes.{size_of}
 use Rattle.tree_search.specs.Progress.{CompletesSome, IsFeasibleBest}
 use Rattle.shared_best.specs.Places.{DeskData, BelongsTo}
 use Rattle.worker_rounds.specs.declared.crew.Worker.{Worker}
-use Rattle.worker_rounds.specs.Rounds.{AnswersInRange, IsBacked, IsIn, HasAbove, IsBusy, IsAtRest, Round}
+use Rattle.tree_search.specs.AnswerRanges.{AnswersInRange}
+use Rattle.worker_rounds.specs.Rounds.{IsBacked, IsIn, HasAbove, IsBusy, IsAtRest, Round}
 
 module _ {A : Type 0} where
   abbrev pub Each : (A → Type 0) → List A → Type 0

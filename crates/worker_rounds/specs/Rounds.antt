@@ -1,6 +1,5 @@
 -- What one worker does in a round, and what it hands back. Own.
-use Rattle.std.specs.Prelude.{◌≡◌, ◌≢◌, ◌⊎◌, ℕ, ◌^◌, ◌<◌, ◌≤◌, ℤ, pos, ◌≤ℤ◌, Bool, true, false, Option, Some, None, List, [], ◌∷◌, ◌++◌, length}
-use Rattle.offer_model.specs.declared.node.Mark.{Mark}
+use Rattle.std.specs.Prelude.{◌≡◌, ◌≢◌, ◌⊎◌, ℕ, ◌<◌, ◌≤◌, pos, ◌≤ℤ◌, Bool, true, false, Option, Some, None, List, [], ◌∷◌, ◌++◌}
 use Rattle.offer_model.specs.Nodes.{Completes}
 use Rattle.tree_search.specs.Goals.{Rules, IsFeasibleFor}
 use Rattle.tree_search.specs.Tasks.{tasks_of, task_of}
@@ -10,15 +9,6 @@ use Rattle.tree_search.specs.Progress.{CompletesSome, Covers, Reaches, HasBy, Is
 use Rattle.shared_best.specs.declared.view.View.{View}
 use Rattle.shared_best.specs.Views.{any_past, AllBelow, is_done, with_claim}
 use Rattle.shared_best.specs.Places.{DeskData, PlaceData, BelongsTo}
-
--- From 0 to 2^60.
-abbrev pub IsSmall : ℤ → Type 0
-IsSmall z = (pos 0 ≤ℤ z) × (z ≤ℤ pos (2 ^ 60))
-
--- Values and bounds are from 0 to 2^60, so that a desk can hold a value.
-pub record AnswersInRange (r : Rules) : Type 0 where
-  pub values : (x : List Bool) → length x ≡ r.products → IsSmall (r.value x)
-  pub bounds : (node : List Mark) → length node ≡ r.products → IsSmall (r.bound node)
 
 -- What a place told is 0, or at most the value of the worker's best.
 abbrev pub IsBacked : Rules → ℕ → Option (List Bool) → Type 0

@@ -1,10 +1,11 @@
 //! One worker's round.
 ghost use Rattle.std.specs.Prelude.{◌≡◌, ◌≢◌, [], pos};
+ghost use Rattle.tree_search.specs.AnswerRanges.{AnswersInRange};
 ghost use Rattle.tree_search.specs.Tasks.{tasks_of};
 ghost use Rattle.tree_search.specs.Turns.{Turn, IsSound};
 ghost use Rattle.tree_search.specs.Progress.{IsFeasibleBest};
 ghost use Rattle.shared_best.specs.Places.{BelongsTo};
-ghost use Rattle.worker_rounds.specs.Rounds.{AnswersInRange, IsBacked, ClaimsIfIdle, TakesNode, Round};
+ghost use Rattle.worker_rounds.specs.Rounds.{IsBacked, ClaimsIfIdle, TakesNode, Round};
 
 use offer_io::Gate;
 use shared_best::{Desk, Place};

@@ -2,11 +2,12 @@
 ghost use Rattle.std.specs.Prelude.{◌≡◌, ◌+◌, ◌^◌, ◌<◌, ◌≤◌, true, [], None, IfOk, vec_len, length};
 ghost use Rattle.shared_best.specs.Views.{first_view, is_done};
 ghost use Rattle.shared_best.specs.Places.{BelongsTo};
+ghost use Rattle.tree_search.specs.AnswerRanges.{AnswersInRange};
 ghost use Rattle.tree_search.specs.Goals.{IsTop};
 ghost use Rattle.tree_search.specs.Tasks.{tasks_of};
 ghost use Rattle.tree_search.specs.Rooms.{best_of};
 ghost use Rattle.tree_search.specs.Progress.{IsFeasibleBest};
-ghost use Rattle.worker_rounds.specs.Rounds.{AnswersInRange, IsBacked};
+ghost use Rattle.worker_rounds.specs.Rounds.{IsBacked};
 ghost use Rattle.worker_rounds.specs.Crews.{Each, IsCrew, IsMember, IsWorkerAtRest, shares, HasNoClaims};
 ghost use Rattle.worker_rounds.specs.Gathering.{SettlesClaims};
 

@@ -2,7 +2,8 @@ use Rattle.std.proofs.Common.{refl, ap, sym, subst, ◌∙◌, arith}
 use Rattle.tree_search.specs.Goals.{Rules, IsLawful}
 use Rattle.tree_search.specs.Tasks.{tasks_of}
 use Rattle.tree_search.specs.Progress.{IsFeasibleBest}
-use Rattle.worker_rounds.specs.Rounds.{AnswersInRange, IsBacked, ClaimsIfIdle, TakesNode}
+use Rattle.tree_search.specs.AnswerRanges.{AnswersInRange}
+use Rattle.worker_rounds.specs.Rounds.{IsBacked, ClaimsIfIdle, TakesNode}
 use Rattle.worker_rounds.proofs.RoundLemmas.{after_none, after_node, after_all, claim_more, ended_idle}
 use Rattle.worker_rounds.proofs.round.work_round.Goals as goal
 
