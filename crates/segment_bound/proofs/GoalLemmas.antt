@@ -1,6 +1,6 @@
 -- The goal of mixed logit: its values and bounds are in their range, and its top is the best assortment.
 use Rattle.std.proofs.Common.{◌≡◌, ℕ, ◌<◌, ◌≤◌, ◌^◌, min, Bool, Some, None, List, ap, arith, inl, inr}
-use Rattle.std.specs.Prelude.{pos, ◌≤ℤ◌}
+use Rattle.std.specs.Prelude.{pos}
 use Rattle.std.proofs.lemmas.Int.{ints}
 use Rattle.offer_model.specs.declared.products.ModelName.{ModelName}
 use Rattle.offer_model.specs.declared.products.ModelName.TheVariants.{Logit, Attract, Mixed, Chain}
@@ -11,31 +11,32 @@ use Rattle.offer_model.specs.Revenue.{value_of, EarnsMoreUnder, EarnsMore}
 use Rattle.offer_model.specs.Best.{IsBest}
 use Rattle.offer_model.proofs.EarningLemmas.{value_of-most}
 use Rattle.offer_model.proofs.NothingLemmas.{nothing, IsFeasible-nothing}
+use Rattle.tree_search.specs.AnswerRanges.{IsSmall, AnswersInRange}
 use Rattle.tree_search.specs.Goals.{IsBetter, IsTop}
-use Rattle.segment_bound.specs.MixedGoals.{greatest_sum, mixed_rules, IsInRange}
+use Rattle.segment_bound.specs.MixedGoals.{greatest_sum, mixed_rules}
 use Rattle.segment_bound.specs.Tangents.{tangent_bound, tangent_rules}
 use Rattle.segment_bound.proofs.GreatestLemmas.{greatest_sum-most}
 
 -- ---- Ranges.
 
-between : (n : ℕ) → n ≤ 10 ^ 18 → (pos 0 ≤ℤ pos n) × (pos n ≤ℤ pos (2 ^ 60))
+between : (n : ℕ) → n ≤ 10 ^ 18 → IsSmall (pos n)
 between n l = (omega (arith, ints), omega (arith, ints))
 
 -- Values and bounds are from 0 to 2 ^ 60.
-pub mixed_in_range : (p : ProblemData) → IsProblem p → IsInRange (mixed_rules p)
+pub mixed_in_range : (p : ProblemData) → IsProblem p → AnswersInRange (mixed_rules p)
 mixed_in_range p valid = record {
-  values = λ x. between (value_of p x) (value_of-most p x valid);
-  bounds = λ node. between (greatest_sum p node) (greatest_sum-most p node valid);
+  values = λ x e. between (value_of p x) (value_of-most p x valid);
+  bounds = λ node e. between (greatest_sum p node) (greatest_sum-most p node valid);
 }
 
-lesser_between : (a b : ℕ) → a ≤ 10 ^ 18 → (pos 0 ≤ℤ pos (min a b)) × (pos (min a b) ≤ℤ pos (2 ^ 60))
+lesser_between : (a b : ℕ) → a ≤ 10 ^ 18 → IsSmall (pos (min a b))
 lesser_between a b l = between (min a b) (omega arith)
 
 -- So are they with the lesser of both bounds.
-pub tangent_in_range : (p : ProblemData) → IsProblem p → IsInRange (tangent_rules p)
+pub tangent_in_range : (p : ProblemData) → IsProblem p → AnswersInRange (tangent_rules p)
 tangent_in_range p valid = record {
-  values = λ x. between (value_of p x) (value_of-most p x valid);
-  bounds = λ node. lesser_between (greatest_sum p node) (tangent_bound p node) (greatest_sum-most p node valid);
+  values = λ x e. between (value_of p x) (value_of-most p x valid);
+  bounds = λ node e. lesser_between (greatest_sum p node) (tangent_bound p node) (greatest_sum-most p node valid);
 }
 
 -- ---- The best one.

@@ -1,6 +1,7 @@
 pub mod OrderLemmas
 pub mod ReachLemmas
 pub mod GreatestLemmas
+pub mod CapLemmas
 pub mod DearestLemmas
 pub mod KeptLemmas
 pub mod GoalLemmas

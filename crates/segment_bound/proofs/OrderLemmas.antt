@@ -17,7 +17,7 @@ use Rattle.offer_model.specs.Problems.{ProblemData, product_count, margin_of}
 use Rattle.offer_model.specs.Validity.{IsProblem}
 use Rattle.offer_model.proofs.EarningLemmas.{margin_most}
 use Rattle.segment_bound.specs.declared.order.Ranked.{Ranked}
-use Rattle.segment_bound.specs.Orders.{ranked_at, ranked, Precedes, IsOrder}
+use Rattle.segment_bound.specs.Orders.{ranked_at, ranked, Precedes, IsOrder, listed_at}
 use Rattle.segment_bound.specs.Kept.{IsListed}
 
 -- ---- The products in catalogue order.
@@ -95,6 +95,17 @@ Falling-from_pairs (q ∷ qs) h = (
 pub pairs_from_falling : (qs : List Ranked) → Falling qs → AllPairs Precedes qs
 pairs_from_falling [] h = λ i j d l m. absurd (omega arith)
 pairs_from_falling (q ∷ qs) h = AllPairs-cons Precedes q qs h.0 (pairs_from_falling qs h.1)
+
+-- No margin is above one that stands before it.
+pub margin_falls : (order : List Ranked) (r j : ℕ) → AllPairs Precedes order → r ≤ j → j < length order → (listed_at order j).margin ≤ (listed_at order r).margin
+margin_falls order r j falling from below = elim (cases_eq j r) [
+  | inl e ↦ rw e (omega arith)
+  | inr ne ↦ lower (listed_at order r) (listed_at order j) (falling r j (record { margin = 0; product = 0 }) (omega arith) below)
+]
+  where
+    lower : (a b : Ranked) → Precedes a b → b.margin ≤ a.margin
+    lower a b (inl l) = omega (arith, l)
+    lower a b (inr l) = let e = l.0 in omega (arith, e)
 
 Precedes-trans : (a b c : Ranked) → Precedes a b → Precedes b c → Precedes a c
 Precedes-trans a b c (inl p) (inl q) = inl (omega arith)

@@ -1,15 +1,20 @@
 -- Slopes and what they make of a product are in their ranges.
-use Rattle.std.proofs.Common.{◌≡◌, ℕ, ◌+◌, ◌*◌, ◌^◌, ◌<◌, ◌≤◌, List, length, refl, arith}
-use Rattle.std.proofs.Math.Nat.{mul-le-mul}
+use Rattle.std.proofs.Common.{◌≡◌, ℕ, ◌+◌, ◌*◌, ◌^◌, ◌<◌, ◌≤◌, Bool, true, false, cond, List, length, refl, arith}
+use Rattle.std.specs.List.{AllPairs}
+use Rattle.std.proofs.Math.Nat.{mul-le-mul, mul-le-mul_left}
+use Rattle.offer_model.specs.declared.node.Mark.{Mark}
 use Rattle.offer_model.specs.Assortments.{sum_below}
 use Rattle.offer_model.specs.Problems.{SegmentData}
-use Rattle.offer_model.proofs.SumLemmas.{sum_below_le}
+use Rattle.offer_model.specs.Nodes.{mark_at, is_open}
+use Rattle.offer_model.proofs.SumLemmas.{sum_below_le, sum_le}
 use Rattle.segment_bound.specs.declared.order.Ranked.{Ranked}
 use Rattle.segment_bound.specs.declared.sums.Sums.{Sums}
 use Rattle.segment_bound.specs.declared.tangent.Slope.{Slope}
+use Rattle.segment_bound.specs.Orders.{Precedes, listed_at}
 use Rattle.segment_bound.specs.Kept.{sums_at}
 use Rattle.segment_bound.specs.Tangents.{parts}
-use Rattle.segment_bound.specs.Slopes.{slope_at, parts_of, gains_of, costs_of, heights_of, depths_of, AreSmall, HasSmallParts, HaveSmallParts}
+use Rattle.segment_bound.specs.Slopes.{slope_at, parts_of, gains_of, costs_of, raise_of, open_raise, heights_of, depths_of, AreSmall, IsCheap, HasSmallParts, HaveSmallParts}
+use Rattle.segment_bound.proofs.OrderLemmas.{margin_falls}
 use Rattle.segment_bound.proofs.LinearLemmas.{term_below, parts_most, sum_of_two}
 
 -- ---- One segment.
@@ -59,6 +64,32 @@ pub costs_most : (segments : List SegmentData) (slopes : List Slope) (q : Ranked
 costs_most segments slopes q n small fit l =
     part_of_sum n (length slopes) (2 ^ 60) (10 ^ 18) (λ k. parts_of segments slopes q k * (slope_at slopes k).units) (λ k. (slope_at slopes k).units) l
     (λ k m. cost_most (parts_of segments slopes q k) (slope_at slopes k).units (fit k m)) small.units
+
+-- ---- Products that no segment gains by.
+
+-- A product of a cheap margin raises nothing.
+cheap_raise : (segments : List SegmentData) (slopes : List Slope) (q : Ranked) → IsCheap slopes q.margin → raise_of segments slopes q ≡ 0
+cheap_raise segments slopes q cheap =
+    let less = sum_le (length slopes) (λ k. parts_of segments slopes q k * ((slope_at slopes k).share * q.margin)) (λ k. parts_of segments slopes q k * (slope_at slopes k).units)
+    (λ k l. mul-le-mul_left (parts_of segments slopes q k) (cheap k l)) in
+    omega (arith, less)
+
+cheaper : (slopes : List Slope) (m n : ℕ) → IsCheap slopes m → n ≤ m → IsCheap slopes n
+cheaper slopes m n cheap l k inside =
+    let a : (slope_at slopes k).share * n ≤ (slope_at slopes k).share * m = mul-le-mul_left (slope_at slopes k).share l in
+    let b = cheap k inside in
+    omega (arith, a, b)
+
+-- From a cheap margin on nothing is raised, since margins fall.
+pub cheap_after : (order : List Ranked) (segments : List SegmentData) (slopes : List Slope) (node : List Mark) (r : ℕ) → AllPairs Precedes order → r < length order → IsCheap slopes (listed_at order r).margin
+    → (j : ℕ) → r ≤ j → j < length order → open_raise order segments slopes node j ≡ 0
+cheap_after order segments slopes node r falling inside cheap j from below =
+    let z = cheap_raise segments slopes (listed_at order j) (cheaper slopes (listed_at order r).margin (listed_at order j).margin cheap (margin_falls order r j falling from below)) in
+    closed (is_open (mark_at node (listed_at order j).product)) (raise_of segments slopes (listed_at order j)) z
+  where
+    closed : (b : Bool) (v : ℕ) → v ≡ 0 → cond b v 0 ≡ 0
+    closed true v e = e
+    closed false v e = refl
 
 -- ---- What is In.
 

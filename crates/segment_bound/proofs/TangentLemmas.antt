@@ -23,7 +23,7 @@ use Rattle.segment_bound.proofs.LinearLemmas.{raised_by_product, lowered_by_prod
 use Rattle.segment_bound.proofs.TopLemmas.{IsChoice, top_most, top_choice}
 use Rattle.std.proofs.lemmas.Bool.Decides.{nat_tests}
 
--- ---- The greatest under a total cap.
+-- ---- The greatest where there is room.
 
 no_more_here : (m : Mark) (y : Bool) (a b : ℕ) → Agrees m y
     → cond y a 0 + cond (is_in m) b 0 ≤ cond y b 0 + cond (is_in m) a 0 + cond (is_open m && y) (cond (is_open m) (a - b) 0) 0
@@ -77,7 +77,7 @@ room_le r a e = grind (arith, nat_tests)
 over_zero : (n : ℕ) (y : ℕ → Bool) → over n y (λ i. 0) ≡ 0
 over_zero n y = sum_below-zeros n (λ i. cond (y i) 0 0) (λ i l. elim (y i) as (λ t. ◌≡◌ {A = ℕ} (cond t 0 0) 0) [ true ↦ refl | false ↦ refl ])
 
--- A difference of two linear functions has its greatest, among completions that keep to the total cap, where what is In and the
+-- A difference of two linear functions has its greatest, among completions that there is room for, where what is In and the
 -- greatest differences of what is Open are offered.
 module _ (p : ProblemData) (node : List Mark) (F : List Bool → ℕ) (R D : ℕ) (a b : ℕ → ℕ) (total : ℕ)
     (is : (y : List Bool) → F y ≡ R + over (product_count p) (offers y) a - (D + over (product_count p) (offers y) b))

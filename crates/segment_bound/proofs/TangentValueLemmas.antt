@@ -3,14 +3,14 @@ use Rattle.std.proofs.Common.{◌≡◌, ℕ, ◌+◌, ◌-◌, ◌*◌, ◌/◌
 use Rattle.std.specs.Prelude.{sum_by}
 use Rattle.std.specs.List.{All}
 use Rattle.std.proofs.lemmas.Bool.Decides.{nat_tests}
-use Rattle.std.proofs.Math.Nat.{mul-le-mul_left}
+use Rattle.std.proofs.Math.Nat.{mul-le-mul_left, le-div_iff_mul-le}
 use Rattle.offer_model.specs.declared.node.Mark.{Mark}
 use Rattle.offer_model.specs.declared.node.Mark.TheVariants.{In, Out, Open}
 use Rattle.offer_model.specs.declared.products.ModelName.TheVariants.{Mixed}
 use Rattle.offer_model.specs.Assortments.{offers, sum_below}
 use Rattle.offer_model.specs.Problems.{ProblemData, SegmentData, product_count, margin_of, attraction_of, shadow_of, segment_at}
 use Rattle.offer_model.specs.Validity.{IsProblem}
-use Rattle.offer_model.specs.Revenue.{gain_of, weight_of}
+use Rattle.offer_model.specs.Revenue.{gain_of, weight_of, segment_value}
 use Rattle.offer_model.specs.Nodes.{mark_at, is_in, is_open, Completes, fill_of}
 use Rattle.offer_model.proofs.NodeLemmas.{offers-fill_of}
 use Rattle.offer_model.proofs.EarningLemmas.{gain_of-most, segment_at-valid, shares_below-most}
@@ -22,10 +22,11 @@ use Rattle.segment_bound.specs.Orders.{IsOrder, ranked_at, listed_at}
 use Rattle.segment_bound.specs.Sums.{gain_in, AreSums}
 use Rattle.segment_bound.specs.Greatest.{greatest}
 use Rattle.segment_bound.specs.Kept.{Fits, IsKept, sums_at, listed_segment}
+use Rattle.segment_bound.specs.MixedGoals.{greatest_sum}
 use Rattle.segment_bound.specs.Tangents.{parts, units_at, room_at, added, within_cap, scale_at, share_at, raised, lowered, tangent_bound}
-use Rattle.segment_bound.specs.TangentLaws.{scaled_most, capped_most}
+use Rattle.segment_bound.specs.TangentLaws.{scaled_most, capped_most, room_bounded}
 use Rattle.segment_bound.specs.Tops.{IsTopOf}
-use Rattle.segment_bound.specs.Slopes.{AreSlopes, slope_at, open_attraction, parts_of, gains_of, costs_of, raise_of, open_raise, heights_of, depths_of, AreSmall, HasSmallParts, HaveSmallParts}
+use Rattle.segment_bound.specs.Slopes.{AreReached, AreSlopes, slope_at, open_attraction, parts_of, gains_of, costs_of, raise_of, open_raise, heights_of, depths_of, AreSmall, HasSmallParts, HaveSmallParts}
 use Rattle.segment_bound.proofs.OrderLemmas.{sum_order, order_of}
 use Rattle.segment_bound.proofs.KeptLemmas.{start_small}
 use Rattle.segment_bound.proofs.GreatestLemmas.{picked, picked_completes, picked_offers, chosen, weight_plain, shadow_none, greatest_sum-most}
@@ -126,6 +127,37 @@ weight_with p g node a l up =
     taken In b e f = absurd cc
     taken Out b e f = absurd cc
     taken Open b e f = f
+
+-- ---- Where what is In alone brings each segment's greatest value.
+
+-- No tangent is lower then than the sum of the greatest values.
+pub reached_below : (p : ProblemData) (order : List Ranked) (segments : List SegmentData) (node : List Mark) (sums : List Sums) → Fits p (record { order = order; segments = segments }) → IsKept order segments node sums
+    → AreReached p node sums → greatest_sum p node ≤ tangent_bound p node
+reached_below p order segments node sums fits kept reached =
+    let value = sum_le (length p.segments) (units_at p node) (λ k. segment_value p (segment_at p k) (fill_of node)) here in
+    let bound = room_bounded p node (fill_of node) (fill_completes node) (fill_room_false p node) in
+    omega (arith, value, bound)
+  where
+    brings : (u w g c : ℕ) → 0 < w → u * w ≤ c * g → u ≤ c * g / w
+    brings u w g c some l = (le-div_iff_mul-le {k = w} {x = u} {y = c * g} some).1 l
+
+    here : (k : ℕ) → k < length p.segments → units_at p node k ≤ segment_value p (segment_at p k) (fill_of node)
+    here k l =
+        let count = ap (λ (gs : List SegmentData). length gs) fits.segments in
+        let same : listed_segment segments k ≡ segment_at p k = ap (λ (gs : List SegmentData). listed_segment gs k) fits.segments in
+        let own = subst (λ (g : SegmentData). AreSums order g node (sums_at sums k)) same (kept.each_sum k (omega (arith, count, l))) in
+        let plain = shadow_none p k fits.valid fits.mixed l in
+        let g = gain_fill p order (segment_at p k) node (sums_at sums k) fits.order own in
+        let w = weight_fill p order (segment_at p k) node (sums_at sums k) fits.order plain own in
+        let none = (segment_at-valid p k fits.valid l).none.0 in
+        let heavy = weight_plain p (segment_at p k) (fill_of node) plain in
+        let some : 0 < weight_of p (segment_at p k) (fill_of node) = omega (arith, none, heavy) in
+        let most = reached k l in
+        brings (units_at p node k) (weight_of p (segment_at p k) (fill_of node)) (gain_of p (segment_at p k) (fill_of node)) (share_at p k) some
+        (fits_both (units_at p node k) (share_at p k) (sums_at sums k).weight (weight_of p (segment_at p k) (fill_of node)) (sums_at sums k).gain (gain_of p (segment_at p k) (fill_of node)) w g most)
+      where
+        fits_both : (u c w w' g g' : ℕ) → w ≡ w' → g ≡ g' → u * w ≤ c * g → u * w' ≤ c * g'
+        fits_both u c w w' g g' a b l = subst (λ t. u * t ≤ c * g') a (subst (λ t. u * w ≤ c * t) b l)
 
 -- ---- All segments.
 

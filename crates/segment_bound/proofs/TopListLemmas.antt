@@ -1,5 +1,6 @@
 -- The sum of the greatest numbers of a list: a sorted list gives it, and lists that are filled one by one.
-use Rattle.std.proofs.Common.{◌≡◌, ℕ, zero, suc, ◌+◌, ◌-◌, ◌*◌, ◌<◌, ◌≤◌, true, false, cond, ltb, List, [], ◌∷◌, length, get_or, refl, ap, subst, arith, add-one, ◌++◌, inl, inr}
+use Rattle.std.proofs.Common.{◌≡◌, ℕ, zero, suc, ◌+◌, ◌-◌, ◌*◌, ◌<◌, ◌≤◌, Bool, true, false, cond, ltb, List, [], ◌∷◌, length, length-append, get_or, refl, sym, ap, ◌∙◌, subst, arith, add-one, ◌++◌, inl, inr}
+use Rattle.std.proofs.lemmas.List.Elements.{All-push}
 use Rattle.std.specs.Prelude.{sum_by, ◌⊎◌}
 use Rattle.std.specs.List.Sorted.{IsPermutation, IsNonDecreasingBy}
 use Rattle.std.proofs.lemmas.Bool.Decides.{nat_tests}
@@ -9,7 +10,7 @@ use Rattle.std.proofs.lemmas.List.Sorted.{sum_by-IsPermutation}
 use Rattle.std.proofs.lemmas.List.Sums.{sum_by_push, sum_by-le}
 use Rattle.offer_model.specs.Assortments.{sum_below}
 use Rattle.offer_model.proofs.SumLemmas.{sum_below-zeros, sum_below-items, sum_below_le, sum_le}
-use Rattle.segment_bound.specs.Tops.{IsTopSum, IsTopOf, Lists}
+use Rattle.segment_bound.specs.Tops.{IsTopSum, IsTopOf, Lists, with_some}
 use Rattle.segment_bound.proofs.TopLemmas.{not_above, not_from}
 
 -- ---- A sorted list.
@@ -180,6 +181,41 @@ pub lists_skip : (n : ℕ) (f : ℕ → ℕ) (xs : List ℕ) → Lists n f xs �
 lists_skip n f xs lists e = record {
   sums = λ h z. (let before = lists.sums h z in let here = ap h e in let next : sum_below (n + 1) (λ i. h (f i)) ≡ sum_below n (λ i. h (f i)) + h (f n) = rw add-one refl in omega (arith, before, here, next, z));
 }
+
+-- A number goes into the list where it is above 0.
+pub lists_some : (n : ℕ) (f : ℕ → ℕ) (xs : List ℕ) (x : ℕ) → Lists n f xs → x ≡ f n → Lists (n + 1) f (with_some xs x)
+lists_some n f xs x lists e = by_test (ltb 0 x) refl
+  where
+    zero_of : (v : ℕ) → ltb 0 v ≡ false → v ≡ 0
+    zero_of v e = grind (arith, nat_tests)
+
+    by_test : (t : Bool) → ltb 0 x ≡ t → Lists (n + 1) f (with_some xs x)
+    by_test true z = rw z (lists_push n f xs x lists e)
+    by_test false z = rw z (lists_skip n f xs lists (sym e ∙ zero_of x z))
+
+-- It stays in its range, and is one longer at most.
+pub small_some : (M : ℕ) (xs : List ℕ) (x : ℕ) → All (λ v. v ≤ M) xs → x ≤ M → All (λ v. v ≤ M) (with_some xs x)
+small_some M xs x small l = elim (ltb 0 x) as (λ t. All (λ v. v ≤ M) (cond t (xs ++ x ∷ []) xs)) [ true ↦ All-push (λ v. v ≤ M) xs x small l | false ↦ small ]
+
+pub few_some : (xs : List ℕ) (x n : ℕ) → length xs ≤ n → length (with_some xs x) ≤ n + 1
+few_some xs x n l = elim (ltb 0 x) as (λ t. length (cond t (xs ++ x ∷ []) xs) ≤ n + 1) [ true ↦ (let e = length-append xs (x ∷ []) in omega (arith, e, l)) | false ↦ omega (arith, l) ]
+
+zeros_after : (h f : ℕ → ℕ) (n m : ℕ) → h 0 ≡ 0 → ((j : ℕ) → n ≤ j → j < n + m → f j ≡ 0) → sum_below (n + m) (λ i. h (f i)) ≡ sum_below n (λ i. h (f i))
+zeros_after h f n zero z rest = ap (λ k. sum_below k (λ i. h (f i))) (omega arith)
+zeros_after h f n (suc m) z rest =
+    let before = zeros_after h f n m z (λ j a b. rest j a (omega arith)) in
+    let here : h (f (n + m)) ≡ 0 = ap h (rest (n + m) (omega arith) (omega arith)) ∙ z in
+    let next : n + suc m ≡ suc (n + m) = omega arith in
+    rw next (omega (arith, before, here))
+
+-- What follows is 0.
+pub lists_rest : (n m : ℕ) (f : ℕ → ℕ) (xs : List ℕ) → Lists n f xs → n ≤ m → ((j : ℕ) → n ≤ j → j < m → f j ≡ 0) → Lists m f xs
+lists_rest n m f xs lists l rest = record {
+  sums = λ h z. lists.sums h z ∙ (sym (zeros_after h f n (m - n) z (λ j a b. rest j a (omega arith))) ∙ ap (λ k. sum_below k (λ i. h (f i))) whole);
+}
+  where
+    whole : n + (m - n) ≡ m
+    whole = omega arith
 
 -- ---- The loop over a sorted list.
 

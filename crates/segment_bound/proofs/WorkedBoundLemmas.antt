@@ -16,5 +16,7 @@ bounds_worked = record {
   nothing_open = refl;
   both_open = refl;
   one_of_two = refl;
+  one_of_category = refl;
+  three_of_five = refl;
   none_left = refl;
 }

@@ -1,5 +1,5 @@
 -- The goal of mixed logit: the feasible assortment that brings most in all segments together. Own.
-use Rattle.std.specs.Prelude.{ℕ, ◌^◌, pos, ◌≤ℤ◌, Bool, List, length}
+use Rattle.std.specs.Prelude.{ℕ, pos, List, length}
 use Rattle.offer_model.specs.declared.node.Mark.{Mark}
 use Rattle.offer_model.specs.Assortments.{sum_below}
 use Rattle.offer_model.specs.Problems.{ProblemData, product_count, segment_at}
@@ -23,8 +23,3 @@ mixed_rules p = record {
   bound = λ node. pos (greatest_sum p node);
   next = dearest p;
 }
-
--- Values and bounds are from 0 to 2 ^ 60.
-pub record IsInRange (r : Rules) : Type 0 where
-  pub values : (x : List Bool) → (pos 0 ≤ℤ r.value x) × (r.value x ≤ℤ pos (2 ^ 60))
-  pub bounds : (node : List Mark) → (pos 0 ≤ℤ r.bound node) × (r.bound node ≤ℤ pos (2 ^ 60))

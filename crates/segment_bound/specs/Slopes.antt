@@ -55,6 +55,14 @@ heights_of sums slopes n = sum_below n (λ k. parts * (slope_at slopes k).units 
 abbrev pub depths_of : List Sums → List Slope → ℕ → ℕ
 depths_of sums slopes n = sum_below n (λ k. (slope_at slopes k).scale * ((slope_at slopes k).units * (sums_at sums k).weight))
 
+-- What is In alone brings each segment's greatest value.
+abbrev pub AreReached : ProblemData → List Mark → List Sums → Type 0
+AreReached p node sums = (k : ℕ) → k < length p.segments → units_at p node k * (sums_at sums k).weight ≤ share_at p k * (sums_at sums k).gain
+
+-- No segment gives the margin a gain above what the weight costs.
+abbrev pub IsCheap : List Slope → ℕ → Type 0
+IsCheap slopes margin = (k : ℕ) → k < length slopes → (slope_at slopes k).share * margin ≤ (slope_at slopes k).units
+
 -- The slopes are in their ranges.
 pub record AreSmall (slopes : List Slope) : Type 0 where
   pub units : sum_below (length slopes) (λ k. (slope_at slopes k).units) ≤ 10 ^ 18

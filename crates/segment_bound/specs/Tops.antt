@@ -1,5 +1,5 @@
 -- The sum of the greatest numbers of a list. Own; a cutoff is a Lagrange multiplier of the room.
-use Rattle.std.specs.Prelude.{◌≡◌, ℕ, ◌+◌, ◌-◌, ◌*◌, ◌<◌, ◌≤◌, nat_lt, cond, List, sum_by}
+use Rattle.std.specs.Prelude.{◌≡◌, ℕ, ◌+◌, ◌-◌, ◌*◌, ◌<◌, ◌≤◌, nat_lt, cond, List, [], ◌∷◌, ◌++◌, sum_by}
 use Rattle.offer_model.specs.Assortments.{sum_below}
 
 -- The total is the sum of the greatest numbers, as many as there is room for: of those above a cutoff, all of which have room,
@@ -16,6 +16,10 @@ pub record IsTopOf (n : ℕ) (f : ℕ → ℕ) (room total : ℕ) : Type 0 where
   pub sum : total ≡ room * cutoff + sum_below n (λ i. f i - cutoff)
   pub few : sum_below n (λ i. cond (nat_lt cutoff (f i)) 1 0) ≤ room
   pub enough : 0 < cutoff → room ≤ sum_below n (λ i. cond (nat_lt (f i) cutoff) 0 1)
+
+-- The list with the number at its end, where that is above 0.
+abbrev pub with_some : List ℕ → ℕ → List ℕ
+with_some numbers x = cond (nat_lt 0 x) (numbers ++ x ∷ []) numbers
 
 -- The list holds the first n numbers that a function gives, in whatever order; zeros may be left out.
 pub record Lists (n : ℕ) (f : ℕ → ℕ) (numbers : List ℕ) : Type 0 where

@@ -2,14 +2,14 @@
 use Rattle.std.specs.Prelude.{◌≡◌, true, Some, None, [], ◌∷◌}
 use Rattle.offer_model.specs.declared.node.Mark.TheVariants.{In, Out, Open}
 use Rattle.offer_model.specs.declared.products.ModelName.TheVariants.{Mixed}
-use Rattle.offer_model.specs.declared.products.Limit.TheVariants.{Total}
+use Rattle.offer_model.specs.declared.products.Limit.TheVariants.{Total, Category}
 use Rattle.offer_model.specs.Problems.{ProblemData, segment_at}
 use Rattle.offer_model.specs.Revenue.{segment_value, value_of}
 use Rattle.offer_model.specs.WorkedValues.{plain_product, plain_segment}
 use Rattle.segment_bound.specs.Greatest.{greatest}
 use Rattle.segment_bound.specs.Orders.{dearest}
 use Rattle.segment_bound.specs.MixedGoals.{greatest_sum}
-use Rattle.segment_bound.specs.Tangents.{tangent_bound}
+use Rattle.segment_bound.specs.Tangents.{most_offered, tangent_bound}
 
 -- margins 6 and 10; a segment of size 1 with attractions and nothing 1, and one of size 2 with attractions 2 and 0 and nothing 3
 abbrev pub two_segments : ProblemData
@@ -19,6 +19,18 @@ two_segments = record {
   products = plain_product 6 ∷ plain_product 10 ∷ [];
   segments = plain_segment 1 (1 ∷ 1 ∷ []) ∷ record { size = 2; none = 3; attract = 2 ∷ 0 ∷ []; shadow = 0 ∷ 0 ∷ [] } ∷ [];
   limits = [];
+}
+
+-- the same, both of category 1, of which one may be offered
+abbrev pub one_category : ProblemData
+one_category = record two_segments { products = record (plain_product 6) { category = 1 } ∷ record (plain_product 10) { category = 1 } ∷ []; limits = Category 1 1 ∷ [] }
+
+-- three products of category 1, of which one may be offered, so two are left out; one of category 2, where a cap of 4 leaves out
+-- none; one without a category
+abbrev pub five_products : ProblemData
+five_products = record two_segments {
+  products = record (plain_product 6) { category = 1 } ∷ record (plain_product 6) { category = 1 } ∷ record (plain_product 6) { category = 2 } ∷ record (plain_product 6) { category = 1 } ∷ plain_product 6 ∷ [];
+  limits = Category 1 1 ∷ Category 2 4 ∷ Total 4 ∷ [];
 }
 
 -- In 2 ^ 60ths, with one product at most: no weight is above 2 and 5, so that the tangent is 9 - 5 / 2 - 12 / 5 where nothing is
@@ -36,4 +48,6 @@ pub record BoundsAreWorked : Type 0 where
   pub nothing_open : dearest two_segments (Out ∷ In ∷ []) ≡ None
   pub both_open : tangent_bound two_segments (Open ∷ Open ∷ []) ≡ 10
   pub one_of_two : tangent_bound (record two_segments { limits = Total 1 ∷ [] }) (Open ∷ Open ∷ []) ≡ 7
+  pub one_of_category : tangent_bound one_category (Open ∷ Open ∷ []) ≡ 7
+  pub three_of_five : most_offered five_products ≡ 3
   pub none_left : tangent_bound (record two_segments { limits = Total 1 ∷ [] }) (Open ∷ In ∷ []) ≡ 5

@@ -1,18 +1,20 @@
 //! The greatest values of a node, segment by segment.
-ghost use Rattle.std.specs.Prelude.{◌≡◌, ◌≤◌, length, vec_capacity, IfOk};
+ghost use Rattle.std.specs.Prelude.{◌≡◌, ◌≤◌, length, min, true, false, vec_capacity, IfOk};
 ghost use Rattle.offer_model.specs.declared.products.ModelName.TheVariants.{Mixed};
 ghost use Rattle.offer_model.specs.Problems.{product_count};
 ghost use Rattle.offer_model.specs.NodeValues.{AreGreatestValues};
 ghost use Rattle.segment_bound.specs.Orders.{dearest, IsDearest};
 ghost use Rattle.segment_bound.specs.Kept.{Fits, IsKept, AreEmptySums};
-ghost use Rattle.segment_bound.specs.Tangents.{total_cap, tangent_bound};
+ghost use Rattle.segment_bound.specs.MixedGoals.{greatest_sum};
+ghost use Rattle.segment_bound.specs.Slopes.{AreReached};
+ghost use Rattle.segment_bound.specs.Tangents.{most_offered, tangent_bound};
 
 use crate::follow::follow;
 use crate::greatest::greatest;
 use crate::order::{Ranked, by_margin, first_open};
-use crate::sums::Sums;
+use crate::sums::{Sums, sum_of};
 use crate::tangent::{Slope, tangent};
-use offer_model::{NoMemory, Node, Problem, Segments, copy_segments};
+use offer_model::{NoMemory, Node, Problem, Segments, copy_segments, share};
 use std::alloc::Global;
 use std::marker::Model;
 
@@ -69,6 +71,30 @@ fn greatest_each(
     }
 }
 
+/// Whether what is In alone brings each segment's greatest value. The tangent isn't below their sum then.
+fn are_reached(
+    p: &Problem,
+    order: &[Ranked],
+    segments: &Segments,
+    sums: &[Sums],
+    node: &Node,
+    greatest: &[u64],
+) -> bool
+    requires fits { Fits p.now (record { order = order.now; segments = segments.now.items }) }
+    requires kept { IsKept order.now segments.now.items node.now sums.now }
+    requires greatest { AreGreatestValues p.now node.now greatest.now }
+    ensures below { result ≡ true → greatest_sum p.now node.now ≤ tangent_bound p.now node.now }
+    ensures short { result ≡ false → AreReached p.now node.now sums.now → ⊥ }
+{
+    for k in 0..sums.len() {
+        let needed = u128::from(greatest[k]) * u128::from(sums[k].weight);
+        if share(p, k) * sums[k].gain < needed {
+            return false;
+        }
+    }
+    true
+}
+
 impl Bounds {
     /// The bounds of a problem, asked about nothing so far.
     pub fn prepare(alloc: Global, p: &Problem) -> Result<Bounds, NoMemory>
@@ -105,8 +131,9 @@ impl Bounds {
         greatest_each(p, &self.order, &self.segments, &self.sums, node, out);
     }
 
-    /// The same numbers, and the greatest number of the tangent over the completions of the node, rounded down to units.
-    pub fn tangent(
+    /// The lesser of the sum of the same numbers and the greatest number of the tangent over the completions of the node, rounded
+    /// down to units. The tangent is asked only where what is In alone falls short of a greatest value.
+    pub fn lesser(
         &mut self,
         p: &Problem,
         node: &Node,
@@ -120,10 +147,10 @@ impl Bounds {
         requires each { length out.old ≡ length p.now.segments }
         requires slopes { length slopes.old ≡ length p.now.segments }
 
-        // The total cap, and what is reused from call to call.
-        requires cap { cap ≡ total_cap p.now.limits (product_count p.now) }
+        // How many products the caps allow, and what is reused from call to call.
+        requires cap { cap ≡ most_offered p.now }
         requires space { product_count p.now ≤ vec_capacity numbers.old }
-        ensures tangent { result ≡ tangent_bound p.now node.now }
+        ensures bound { result ≡ min (greatest_sum p.now node.now) (tangent_bound p.now node.now) }
         ensures values { AreGreatestValues p.now node.now out.new }
         ensures slopes { length slopes.new ≡ length slopes.old }
         ensures space { vec_capacity numbers.new ≡ vec_capacity numbers.old }
@@ -137,7 +164,11 @@ impl Bounds {
             &mut self.sums,
         );
         greatest_each(p, &self.order, &self.segments, &self.sums, node, out);
-        tangent(
+        let apart = u128::from(sum_of(out));
+        if are_reached(p, &self.order, &self.segments, &self.sums, node, out) {
+            return apart;
+        }
+        let together = tangent(
             p,
             &self.order,
             &self.segments,
@@ -147,7 +178,8 @@ impl Bounds {
             cap,
             slopes,
             numbers,
-        )
+        );
+        apart.min(together)
     }
 
     /// The Open product of greatest margin, the first of several, or `None` where nothing is Open.

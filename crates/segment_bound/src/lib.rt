@@ -3,6 +3,7 @@
 #![tactic(auto)]
 
 mod bounds;
+mod caps;
 mod follow;
 mod greatest;
 mod laws;

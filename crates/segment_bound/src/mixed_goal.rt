@@ -1,12 +1,13 @@
 //! The goal of mixed logit: the assortment that brings most in all segments together.
-ghost use Rattle.std.specs.Prelude.{◌≡◌, ◌≤◌, ◌^◌, length, pos, IfOk, slice_index};
+ghost use Rattle.std.specs.Prelude.{◌≡◌, length, pos, IfOk};
 ghost use Rattle.offer_model.specs.declared.products.ModelName.TheVariants.{Mixed};
-ghost use Rattle.offer_model.specs.Assortments.{sum_below};
 ghost use Rattle.offer_model.specs.Problems.{product_count};
+ghost use Rattle.tree_search.specs.AnswerRanges.{AnswersInRange};
 ghost use Rattle.segment_bound.specs.Kept.{Fits};
-ghost use Rattle.segment_bound.specs.MixedGoals.{mixed_rules, greatest_sum, IsInRange};
+ghost use Rattle.segment_bound.specs.MixedGoals.{mixed_rules, greatest_sum};
 
 use crate::bounds::Bounds;
+use crate::sums::sum_of;
 use limit_rules::{clashes, first_broken};
 use offer_model::{Assortment, NoMemory, Node, Problem, mixed_value};
 use std::alloc::Global;
@@ -39,7 +40,7 @@ impl<'a> MixedGoal<'a> {
     pub fn prepare(alloc: Global, problem: &'a Problem) -> Result<MixedGoal<'a>, NoMemory>
         requires model { problem.now.model ≡ Mixed }
         ensures goal { IfOk result (λ g. g ≡ problem.now) }
-        ensures range { IsInRange (mixed_rules problem.now) }
+        ensures range { AnswersInRange (mixed_rules problem.now) }
     {
         let segments = problem.segments();
         let bounds = Bounds::prepare(alloc, problem)?;
@@ -50,18 +51,6 @@ impl<'a> MixedGoal<'a> {
             greatest,
         })
     }
-}
-
-/// The sum of some numbers.
-pub fn sum_of(numbers: &[u64]) -> u64
-    requires { sum_below (length numbers.now) (slice_index numbers.now) ≤ 10 ^ 18 }
-    ensures { result ≡ sum_below (length numbers.now) (slice_index numbers.now) }
-{
-    let mut total = 0;
-    for k in 0..numbers.len() {
-        total += numbers[k];
-    }
-    total
 }
 
 /// The sum of the greatest values of the node's completions.

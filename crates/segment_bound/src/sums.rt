@@ -1,6 +1,7 @@
 //! Gain and weight of a segment, product by product.
-ghost use Rattle.std.specs.Prelude.{◌≡◌, ◌≤◌, ◌^◌, ◌<◌, ◌*◌, nat_lt, false, length};
+ghost use Rattle.std.specs.Prelude.{◌≡◌, ◌≤◌, ◌^◌, ◌<◌, ◌*◌, nat_lt, false, length, slice_index};
 ghost use Rattle.std.specs.List.{All};
+ghost use Rattle.offer_model.specs.Assortments.{sum_below};
 ghost use Rattle.segment_bound.specs.Sums.{taken_if, IsMoved};
 ghost use Rattle.segment_bound.specs.Kept.{Holds, AllHold, AllMoved};
 
@@ -78,4 +79,16 @@ pub fn move_each(was: bool, now_is: bool, q: Ranked, segments: &Segments, sums: 
         let attraction = segments.get(k).attract(q.product);
         sums[k] = moved(was, now_is, q, attraction, sums[k]);
     }
+}
+
+/// The sum of some numbers.
+pub fn sum_of(numbers: &[u64]) -> u64
+    requires { sum_below (length numbers.now) (slice_index numbers.now) ≤ 10 ^ 18 }
+    ensures { result ≡ sum_below (length numbers.now) (slice_index numbers.now) }
+{
+    let mut total = 0;
+    for k in 0..numbers.len() {
+        total += numbers[k];
+    }
+    total
 }

@@ -1,23 +1,22 @@
 //! The tangent of mixed revenue at a node, which bounds all segments together.
-ghost use Rattle.std.specs.Prelude.{◌≡◌, ◌≤◌, ◌<◌, ◌-◌, ◌*◌, ◌^◌, true, cond, List, ◌∷◌, length, vec_capacity};
-ghost use Rattle.std.specs.List.{All};
+ghost use Rattle.std.specs.Prelude.{◌≡◌, ◌≤◌, ◌<◌, ◌-◌, ◌*◌, ◌^◌, true, false, cond, length, vec_capacity};
+ghost use Rattle.std.specs.List.{All, AllPairs};
 ghost use Rattle.offer_model.specs.declared.products.ModelName.TheVariants.{Mixed};
-ghost use Rattle.offer_model.specs.declared.products.Limit.{Limit};
 ghost use Rattle.offer_model.specs.Problems.{product_count, segment_at};
 ghost use Rattle.offer_model.specs.Assortments.{sum_below};
 ghost use Rattle.offer_model.specs.Nodes.{mark_at, is_in, is_open};
 ghost use Rattle.offer_model.specs.NodeValues.{AreGreatestValues};
-ghost use Rattle.segment_bound.specs.Orders.{IsOrder};
+ghost use Rattle.segment_bound.specs.Orders.{IsOrder, Precedes};
 ghost use Rattle.segment_bound.specs.Sums.{AreSums};
 ghost use Rattle.segment_bound.specs.Kept.{Fits, IsKept, IsListed};
-ghost use Rattle.segment_bound.specs.Tangents.{parts, units_at, total_cap, room_at, tangent_bound};
+ghost use Rattle.segment_bound.specs.Tangents.{parts, units_at, most_offered, room_at, tangent_bound};
 ghost use Rattle.segment_bound.specs.Tops.{IsTopOf, Lists};
-ghost use Rattle.segment_bound.specs.Slopes.{IsSlope, AreSlopes, open_attraction, raise_of, open_raise, heights_of, depths_of, AreSmall, HasSmallParts, HaveSmallParts};
+ghost use Rattle.segment_bound.specs.Slopes.{IsSlope, AreSlopes, open_attraction, raise_of, open_raise, heights_of, depths_of, AreSmall, IsCheap, HasSmallParts, HaveSmallParts};
 
 use crate::order::{Ranked, is_in, is_open};
 use crate::sums::Sums;
-use crate::tops::top_sum;
-use offer_model::{Limit, Limits, Node, Problem, Segment, Segments, share};
+use crate::tops::{push_some, top_sum};
+use offer_model::{Node, Problem, Segment, Segments, share};
 
 /// A unit has so many parts, 2^60: the tangent is rounded down to units once, at the end.
 const PARTS: u64 = 1_152_921_504_606_846_976;
@@ -28,27 +27,6 @@ pub struct Slope {
     pub units: u64,
     pub share: u64,
     pub scale: u64,
-}
-
-/// The lesser of the number and what the limit allows in all, where it is a total cap.
-fn capped(limit: Limit, n: usize) -> usize
-    ensures { (limits : List Limit) → total_cap (limit ∷ limits) n ≡ total_cap limits result }
-{
-    match limit {
-        Limit::Total(cap) => (cap as usize).min(n),
-        Limit::Category(_, _) | Limit::Requires(_, _) | Limit::Shelf(_) | Limit::Ladder(_) => n,
-    }
-}
-
-/// The total cap, and `n` where there is none.
-pub fn total_cap(limits: &Limits, n: usize) -> usize
-    ensures { result ≡ total_cap limits.now.items n }
-{
-    let mut cap = n;
-    for k in 0..limits.len() {
-        cap = capped(*limits.get(k), cap);
-    }
-    cap
 }
 
 /// How many of what is Open the cap leaves room for.
@@ -80,7 +58,7 @@ fn list_attractions(order: &[Ranked], segment: &Segment, node: &Node, numbers: &
     for r in 0..order.len() {
         let q = order[r];
         if is_open(node.mark(q.product)) {
-            numbers.push_reserved(u128::from(segment.attract(q.product)));
+            push_some(numbers, u128::from(segment.attract(q.product)));
         }
     }
 }
@@ -105,7 +83,7 @@ fn slope_of(
     requires sums { AreSums order.now segment.now node.now sums }
     requires units { units ≡ units_at p.now node.now k }
 
-    // Of the completions that the total cap has room for.
+    // Of the completions that there is room for.
     requires room { room ≡ room_at p.now node.now }
     requires space { length order.now ≤ vec_capacity numbers.old }
     ensures slope { IsSlope p.now node.now k result }
@@ -139,7 +117,7 @@ fn find_slopes(
     requires greatest { AreGreatestValues p.now node.now greatest.now }
     requires each { length slopes.old ≡ length p.now.segments }
 
-    // Of the completions that the total cap has room for.
+    // Of the completions that there is room for.
     requires room { room ≡ room_at p.now node.now }
     requires space { length order.now ≤ vec_capacity numbers.old }
     ensures slopes { AreSlopes p.now node.now slopes.new }
@@ -183,7 +161,23 @@ fn raise(q: Ranked, segments: &Segments, slopes: &[Slope]) -> u128
     gains.saturating_sub(costs)
 }
 
-/// Lists what offering each Open product raises the tangent by.
+/// Whether some segment gives the margin a gain above what the weight costs there.
+fn is_dear(margin: u64, slopes: &[Slope]) -> bool
+    requires small { AreSmall slopes.now }
+    requires margin { margin ≤ 10 ^ 9 }
+    ensures cheap { result ≡ false → IsCheap slopes.now margin }
+    ensures dear { result ≡ true → IsCheap slopes.now margin → ⊥ }
+{
+    for k in 0..slopes.len() {
+        let slope = slopes[k];
+        if slope.units < slope.share * margin {
+            return true;
+        }
+    }
+    false
+}
+
+/// Lists what offering each Open product raises the tangent by. By falling margin, so it ends where no segment gains.
 fn list_raises(
     order: &[Ranked],
     node: &Node,
@@ -192,6 +186,7 @@ fn list_raises(
     numbers: &mut Vec<u128>,
 )
     requires listed { All (IsListed (length node.now)) order.now }
+    requires falling { AllPairs Precedes order.now }
     requires attracts { All (λ g. length g.attract ≡ length node.now) segments.now.items }
     requires each { length slopes.now ≡ length segments.now.items }
     requires small { AreSmall slopes.now }
@@ -208,8 +203,11 @@ fn list_raises(
     numbers.clear();
     for r in 0..order.len() {
         let q = order[r];
+        if !is_dear(q.margin, slopes) {
+            return;
+        }
         if is_open(node.mark(q.product)) {
-            numbers.push_reserved(raise(q, segments, slopes));
+            push_some(numbers, raise(q, segments, slopes));
         }
     }
 }
@@ -224,6 +222,7 @@ fn raises(
     numbers: &mut Vec<u128>,
 ) -> u128
     requires listed { All (IsListed (length node.now)) order.now }
+    requires falling { AllPairs Precedes order.now }
     requires few { length order.now ≤ 256 }
     requires attracts { All (λ g. length g.attract ≡ length node.now) segments.now.items }
     requires each { length slopes.now ≡ length segments.now.items }
@@ -278,7 +277,7 @@ fn depths(sums: &[Sums], slopes: &[Slope]) -> u128
     total
 }
 
-/// The tangent's greatest number over the completions of the node that keep to the total cap, rounded down to units.
+/// The tangent's greatest number over the completions of the node that there is room for, rounded down to units.
 pub fn tangent(
     p: &Problem,
     order: &[Ranked],
@@ -295,8 +294,8 @@ pub fn tangent(
     requires greatest { AreGreatestValues p.now node.now greatest.now }
     requires each { length slopes.old ≡ length p.now.segments }
 
-    // The total cap, and what is reused from call to call.
-    requires cap { cap ≡ total_cap p.now.limits (product_count p.now) }
+    // How many products the caps allow, and what is reused from call to call.
+    requires cap { cap ≡ most_offered p.now }
     requires space { length order.now ≤ vec_capacity numbers.old }
     ensures value { result ≡ tangent_bound p.now node.now }
     ensures each { length slopes.new ≡ length slopes.old }

@@ -2,13 +2,14 @@
 ghost use Rattle.std.specs.Prelude.{◌≡◌, ◌≤◌, length, min, pos, vec_capacity, IfOk};
 ghost use Rattle.offer_model.specs.declared.products.ModelName.TheVariants.{Mixed};
 ghost use Rattle.offer_model.specs.Problems.{product_count};
+ghost use Rattle.tree_search.specs.AnswerRanges.{AnswersInRange};
 ghost use Rattle.segment_bound.specs.Kept.{Fits};
-ghost use Rattle.segment_bound.specs.MixedGoals.{greatest_sum, IsInRange};
-ghost use Rattle.segment_bound.specs.Tangents.{total_cap, tangent_bound, tangent_rules};
+ghost use Rattle.segment_bound.specs.MixedGoals.{greatest_sum};
+ghost use Rattle.segment_bound.specs.Tangents.{most_offered, tangent_bound, tangent_rules};
 
 use crate::bounds::Bounds;
-use crate::mixed_goal::sum_of;
-use crate::tangent::{Slope, total_cap};
+use crate::caps::most_offered;
+use crate::tangent::Slope;
 use limit_rules::{clashes, first_broken};
 use offer_model::{Assortment, NoMemory, Node, Problem, mixed_value};
 use std::alloc::Global;
@@ -16,7 +17,7 @@ use std::marker::Model;
 use tree_search::Goal;
 
 /// The goal of mixed logit, with the lesser of two bounds: the sum of the segments' greatest values, and the greatest number of the
-/// tangent, which sees that one assortment serves all segments and keeps to a total cap.
+/// tangent, which sees that one assortment serves all segments and keeps to the caps.
 #[derive(Drop)]
 pub struct TangentGoal<'a> {
     problem: &'a Problem,
@@ -31,14 +32,14 @@ impl<'a> Model for TangentGoal<'a> {
     ghost use Rattle.std.specs.Prelude.{◌≡◌, ◌≤◌, length, vec_capacity};
     ghost use Rattle.offer_model.specs.Problems.{ProblemData, product_count};
     ghost use Rattle.segment_bound.specs.Kept.{Fits};
-    ghost use Rattle.segment_bound.specs.Tangents.{total_cap};
+    ghost use Rattle.segment_bound.specs.Tangents.{most_offered};
 
     ghost Value = { ProblemData };
 
     ghost view = { λ g. g.problem.now };
 
     ghost invariant = { λ g. Fits g.problem.now g.bounds × (length g.greatest.items ≡ length g.problem.now.segments)
-        × (length g.slopes.items ≡ length g.problem.now.segments) × (g.cap ≡ total_cap g.problem.now.limits (product_count g.problem.now))
+        × (length g.slopes.items ≡ length g.problem.now.segments) × (g.cap ≡ most_offered g.problem.now)
         × (product_count g.problem.now ≤ vec_capacity g.numbers) };
 }
 
@@ -48,13 +49,13 @@ impl<'a> TangentGoal<'a> {
     pub fn prepare(alloc: Global, problem: &'a Problem) -> Result<TangentGoal<'a>, NoMemory>
         requires model { problem.now.model ≡ Mixed }
         ensures goal { IfOk result (λ g. g ≡ problem.now) }
-        ensures range { IsInRange (tangent_rules problem.now) }
+        ensures range { AnswersInRange (tangent_rules problem.now) }
     {
         let segments = problem.segments();
         let bounds = Bounds::prepare(alloc, problem)?;
         let greatest = vec![in alloc; 0; segments.len()]?;
         let slopes = vec![in alloc; Slope::default(); segments.len()]?;
-        let cap = total_cap(problem.limits(), problem.products().len());
+        let cap = most_offered(problem);
         let mut numbers = Vec::new(alloc);
         numbers.reserve(problem.products().len())?;
         Ok(TangentGoal {
@@ -82,8 +83,8 @@ fn lesser(
     requires node { length node.now ≡ product_count p.now }
     requires each { length greatest.old ≡ length p.now.segments }
 
-    // The total cap, and what is reused from call to call.
-    requires cap { cap ≡ total_cap p.now.limits (product_count p.now) }
+    // How many products the caps allow, and what is reused from call to call.
+    requires cap { cap ≡ most_offered p.now }
     requires slopes { length slopes.old ≡ length p.now.segments }
     requires space { product_count p.now ≤ vec_capacity numbers.old }
     ensures bound { result ≡ pos (min (greatest_sum p.now node.now) (tangent_bound p.now node.now)) }
@@ -92,9 +93,7 @@ fn lesser(
     ensures slopes { length slopes.new ≡ length slopes.old }
     ensures space { vec_capacity numbers.new ≡ vec_capacity numbers.old }
 {
-    let together = bounds.tangent(p, node, greatest, cap, slopes, numbers);
-    let apart = u128::from(sum_of(greatest));
-    apart.min(together) as i128
+    bounds.lesser(p, node, greatest, cap, slopes, numbers) as i128
 }
 
 impl Goal for TangentGoal<'_> {

@@ -1,8 +1,19 @@
 //! The sum of the greatest numbers of a list.
-ghost use Rattle.std.specs.Prelude.{◌≡◌, ◌<◌, ◌≤◌, ◌*◌, ◌^◌, length, sum_by, vec_capacity};
+ghost use Rattle.std.specs.Prelude.{◌≡◌, ◌<◌, ◌≤◌, ◌*◌, ◌^◌, length, sum_by, vec_len, vec_capacity};
 ghost use Rattle.std.specs.List.{All};
 ghost use Rattle.std.specs.List.Sorted.{IsPermutation, IsNonDecreasingBy};
-ghost use Rattle.segment_bound.specs.Tops.{IsTopSum};
+ghost use Rattle.segment_bound.specs.Tops.{IsTopSum, with_some};
+
+/// Lists the number where it is above 0.
+pub fn push_some(numbers: &mut Vec<u128>, x: u128)
+    requires space { vec_len numbers.old < vec_capacity numbers.old }
+    ensures items { numbers.new.items ≡ with_some numbers.old.items x }
+    ensures space { vec_capacity numbers.new ≡ vec_capacity numbers.old }
+{
+    if 0 < x {
+        numbers.push_reserved(x);
+    }
+}
 
 /// Sorts the numbers where there isn't room for all.
 fn sort_above(numbers: &mut Vec<u128>, room: usize)

@@ -3,7 +3,7 @@ use Rattle.std.proofs.Math.Seq.{drop-cons}
 use Rattle.std.proofs.lemmas.Option.{get_or_from_slice_get}
 use Rattle.offer_model.specs.declared.products.Limit.{Limit}
 use Rattle.segment_bound.specs.Tangents.{total_cap}
-use Rattle.segment_bound.proofs.tangent.total_cap.Goals as goal
+use Rattle.segment_bound.proofs.caps.total_cap.Goals as goal
 
 -- One more limit.
 next : (limits : List Limit) (k cap after n : ℕ) (limit : Limit) → k < length limits → get_or limits k limit ≡ limit → ((rest : List Limit) → total_cap (limit ∷ rest) cap ≡ total_cap rest after)
