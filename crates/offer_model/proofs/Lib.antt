@@ -1,5 +1,6 @@
 pub mod DigitLemmas
 pub mod WorkedValueLemmas
+pub mod WorkedChainLemmas
 pub mod ListLemmas
 pub mod SumLemmas
 pub mod NodeLemmas

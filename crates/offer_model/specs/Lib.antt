@@ -12,9 +12,11 @@ pub mod Nodes
 pub mod Prices
 pub mod LeafBounds
 pub mod Chains
+pub mod ChainValidity
 pub mod Moves
 pub mod Stopping
 pub mod Claims
 pub mod Brackets
+pub mod WorkedChains
 pub mod Branching
 pub mod NodeValues

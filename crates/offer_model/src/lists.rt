@@ -1,6 +1,7 @@
 //! Lists with reserved room, of whatever items.
 ghost use Rattle.std.specs.Prelude.{◌≡◌, ◌+◌, ◌<◌, ◌≤◌, [], ◌∷◌, ◌++◌, length, slice_get, OnOk, IfOk};
 
+use crate::arc::Arc;
 use crate::memory::NoMemory;
 use crate::products::{Limit, Product};
 use crate::segments::Segment;
@@ -39,6 +40,9 @@ pub type Segments = Items<Segment>;
 
 /// Limits in file order.
 pub type Limits = Items<Limit>;
+
+/// Arcs in file order.
+pub type Arcs = Items<Arc>;
 
 impl<X> Items<X> {
     /// The empty list. It keeps the allocator for later growth.

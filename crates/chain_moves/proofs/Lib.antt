@@ -1,0 +1,5 @@
+pub mod RowLemmas
+pub mod RowSumLemmas
+pub mod WeighedLemmas
+pub mod ValueLemmas
+pub mod GapLemmas

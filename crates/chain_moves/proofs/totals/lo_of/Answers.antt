@@ -1,0 +1,9 @@
+use Rattle.std.proofs.Common.{arith}
+use Rattle.std.specs.Prelude.{slice_index}
+use Rattle.chain_moves.proofs.ValueLemmas.{arriving_small}
+use Rattle.chain_moves.proofs.totals.lo_of.Goals as goal
+
+pub rounded_down-requires-clause-small : goal.rounded_down-requires-clause-small
+rounded_down-requires-clause-small c =
+    let most = arriving_small c.args.chain.now (slice_index c.args.lower.now) (λ i l. c.requires.small i (omega (arith, c.requires.each))) in
+    rw (c.arriving.ensures.value, c.customer_count.ensures.value) most
