@@ -1,4 +1,3 @@
-pub mod ListLemmas
 pub mod LeafLemmas
 pub mod HeaderLemmas
 pub mod AcceptedLemmas

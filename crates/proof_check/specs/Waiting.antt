@@ -1,15 +1,21 @@
 -- What a checker waits for, and which texts it takes. Own.
-use Rattle.std.specs.Prelude.{◌≡◌, ℕ, Bool, List, [], ◌∷◌}
+use Rattle.std.specs.Prelude.{◌≡◌, ℕ, ◌≤◌, Bool, List, [], ◌∷◌}
 use Rattle.offer_model.specs.Problems.{ProblemData, product_count}
 use Rattle.offer_model.specs.Limits.{IsFeasible}
 use Rattle.offer_model.specs.Nodes.{open_node}
 use Rattle.proof_lines.specs.declared.line.Shape.TheVariants as S
 use Rattle.proof_lines.specs.Lines.{line_text}
 use Rattle.proof_lines.specs.Acceptance.{digits_of, value_numbers}
+use Rattle.proof_tree.specs.declared.either_machine.EitherMachine.{EitherMachine}
+use Rattle.proof_tree.specs.declared.either_machine.EitherMachine.TheVariants as M
+use Rattle.proof_tree.specs.Either.{either_waits}
 use Rattle.proof_tree.specs.Feeding.{FeederData, TakesBy}
 use Rattle.proof_tree.specs.LineLeaves.{LeafCloses}
+use Rattle.proof_tree.specs.Stages.{BranchesOpen}
 use Rattle.proof_tree.specs.Trees.{Spells, TreePhase, TreeWaits}
 use Rattle.proof_tree.specs.Trees.TreePhase.{in_trees}
+use Rattle.chain_check.specs.Waiting.{ChainMachineData}
+use Rattle.chain_check.specs.Waiting.{Waits as ChainWaits}
 
 -- What comes next of the header: the first line, the model, the assortment, or its value; after it the tree; or nothing that
 -- could be accepted.
@@ -44,7 +50,20 @@ pub record MachineData : Type 0 where
   pub head : HeadPhase
   pub tree : TreePhase
 
+-- What contracts see of the machine of a problem's or a chain's certificates.
+abbrev pub AnyMachine : Type 0
+AnyMachine = EitherMachine MachineData ChainMachineData
+
+-- The lines are those that the machine still waits for.
+abbrev pub AnyWaits : AnyMachine → List (List ℕ) → Type 0
+AnyWaits machine ls = either_waits (λ m. Waits m.problem m.head m.tree) (λ m. ChainWaits m.chain m.phase) machine ls
+
+-- So many branches of a problem's tree are open, at most as many as there are products. A chain's certificate has none.
+abbrev pub HasFrames : AnyMachine → ℕ → Type 0
+HasFrames (M.First m) n = BranchesOpen m.tree n × (n ≤ product_count m.problem)
+HasFrames (M.Second m) n = n ≡ 0
+
 -- The checker accepts where r is all that is still to come: the line that has begun and r are the text of lines that it
 -- waits for.
-abbrev pub Takes : FeederData MachineData → List ℕ → Type 0
-Takes checker r = TakesBy (Waits checker.machine.problem checker.machine.head checker.machine.tree) checker.begun r
+abbrev pub Takes : FeederData AnyMachine → List ℕ → Type 0
+Takes checker r = TakesBy (AnyWaits checker.machine) checker.begun r

@@ -1,13 +1,12 @@
 //! The checker of certificates.
-ghost use Rattle.std.specs.Prelude.{◌≡◌, ℕ, ◌≤◌, ◌↔◌, List, [], ◌++◌, IfOk, IsTrue};
-ghost use Rattle.offer_model.specs.Problems.{product_count};
-ghost use Rattle.proof_lines.specs.Acceptance.{Accepts};
-ghost use Rattle.proof_tree.specs.Stages.{BranchesOpen};
-ghost use Rattle.proof_check.specs.Waiting.{Takes};
+ghost use Rattle.std.specs.Prelude.{◌≡◌, ℕ, ◌↔◌, List, [], ◌++◌, IfOk, IsTrue};
+ghost use Rattle.proof_lines.specs.Acceptance.{Accepts, AcceptsChain};
+ghost use Rattle.proof_check.specs.Waiting.{Takes, HasFrames};
 
 use crate::machine::Machine;
-use offer_model::{NoMemory, Problem};
-use proof_tree::Feeder;
+use chain_check::ChainMachine;
+use offer_model::{Chain, NoMemory, Problem};
+use proof_tree::{EitherMachine, Feeder};
 use std::alloc::Global;
 use std::marker::Model;
 
@@ -21,25 +20,34 @@ pub enum Verdict {
 /// A checker of one text, which comes in pieces. Contracts see what it waits for (`Takes`).
 #[derive(Drop)]
 pub struct Checker {
-    feeder: Feeder<Machine>,
+    feeder: Feeder<EitherMachine<Machine, ChainMachine>>,
 }
 
 impl Model for Checker {
     ghost use Rattle.proof_tree.specs.Feeding.{FeederData};
-    ghost use Rattle.proof_check.specs.Waiting.{MachineData};
+    ghost use Rattle.proof_check.specs.Waiting.{AnyMachine};
 
-    ghost Value = { FeederData MachineData };
+    ghost Value = { FeederData AnyMachine };
 
     ghost view = { λ c. c.feeder };
 }
 
 impl Checker {
-    /// A checker that has read nothing. It takes all its memory here.
+    /// A checker of a problem's certificates that has read nothing. It takes all its memory here.
     pub fn for_problem(alloc: Global, p: &Problem) -> Result<Checker, NoMemory>
         ensures { IfOk result (λ checker. (r : List ℕ) → Takes checker r ↔ Accepts p.now r) }
     {
         let machine = Machine::new(alloc, p)?;
-        let feeder = Feeder::new(alloc, machine)?;
+        let feeder = Feeder::new(alloc, EitherMachine::First(machine))?;
+        Ok(Checker { feeder })
+    }
+
+    /// A checker of a chain's certificates that has read nothing. It takes all its memory here.
+    pub fn for_chain(alloc: Global, chain: &Chain) -> Result<Checker, NoMemory>
+        ensures { IfOk result (λ checker. (r : List ℕ) → Takes checker r ↔ AcceptsChain chain.now r) }
+    {
+        let machine = ChainMachine::new(alloc, chain)?;
+        let feeder = Feeder::new(alloc, EitherMachine::Second(machine))?;
         Ok(Checker { feeder })
     }
 
@@ -52,10 +60,12 @@ impl Checker {
 
     /// How many branches are open.
     pub fn frames(&self) -> usize
-        ensures branches { BranchesOpen self.now.machine.tree result }
-        ensures most { result ≤ product_count self.now.machine.problem }
+        ensures { HasFrames self.now.machine result }
     {
-        self.feeder.machine().frames()
+        match self.feeder.machine() {
+            EitherMachine::First(machine) => machine.frames(),
+            EitherMachine::Second(_) => 0,
+        }
     }
 
     /// Whether the pieces, joined, are accepted.

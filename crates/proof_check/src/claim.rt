@@ -3,8 +3,7 @@ ghost use Rattle.std.specs.Prelude.{◌≡◌, ◌↔◌, length, IsTrue};
 ghost use Rattle.offer_model.specs.Problems.{product_count};
 ghost use Rattle.offer_model.specs.Limits.{IsFeasible};
 ghost use Rattle.offer_model.specs.Validity.{IsRatioModel};
-ghost use Rattle.proof_lines.specs.Lines.{AreDigits};
-ghost use Rattle.proof_lines.specs.Acceptance.{digits_of, value_numbers};
+ghost use Rattle.proof_lines.specs.Acceptance.{value_numbers};
 
 use limit_rules::first_broken;
 use offer_model::{Assortment, Problem, Wide, revenue};
@@ -28,15 +27,4 @@ pub(crate) fn is_feasible(p: &Problem, x: &Assortment) -> bool
     ensures { IsTrue result ↔ IsFeasible p.now x.now }
 {
     first_broken(p, x).is_none()
-}
-
-/// Offers what the digits say.
-pub(crate) fn write_set(digits: &Wide, x: &mut Assortment)
-    requires digits { AreDigits digits.now.items }
-    requires length { length x.old ≡ length digits.now.items }
-    ensures { digits_of x.new ≡ digits.now.items }
-{
-    for i in 0..digits.len() {
-        x.set(i, *digits.get(i) == 1);
-    }
 }

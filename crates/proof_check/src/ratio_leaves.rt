@@ -7,12 +7,12 @@ ghost use Rattle.proof_lines.specs.Lines.{AreDigits};
 ghost use Rattle.proof_lines.specs.Acceptance.{digits_of, value_numbers};
 ghost use Rattle.proof_check.specs.Judging.{AreOwnWeights};
 
-use crate::claim::{is_feasible, says_value, write_set};
+use crate::claim::{is_feasible, says_value};
 use crate::leaf::Leaves as LeafRoom;
 use linear_step::{Weights, weights_at};
 use offer_model::{Assortment, NoMemory, Node, Problem, Wide, revenue};
 use proof_lines::Shape;
-use proof_tree::Leaves;
+use proof_tree::{Leaves, write_set};
 use std::alloc::Global;
 use std::marker::Model;
 

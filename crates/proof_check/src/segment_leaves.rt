@@ -6,11 +6,11 @@ ghost use Rattle.offer_model.specs.Validity.{IsProblem};
 ghost use Rattle.proof_lines.specs.Lines.{AreDigits};
 ghost use Rattle.proof_lines.specs.Acceptance.{digits_of, value_numbers};
 
-use crate::claim::{is_feasible, write_set};
+use crate::claim::is_feasible;
 use crate::segments::close;
 use offer_model::{Assortment, ModelName, NoMemory, Node, Problem, Wide, mixed_value};
 use proof_lines::Shape;
-use proof_tree::Leaves;
+use proof_tree::{Leaves, write_set};
 use std::alloc::Global;
 use std::marker::Model;
 

@@ -3,6 +3,7 @@ pub mod StandLemmas
 pub mod PathLemmas
 pub mod StageLemmas
 pub mod TreeLemmas
+pub mod DigitLemmas
 pub mod TextLemmas
 pub mod LineLeafLemmas
 pub mod PutLemmas

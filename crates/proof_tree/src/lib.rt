@@ -1,7 +1,9 @@
 //! Certificates as trees: lines from pieces, the path through a tree, readers and writers of trees over any rule.
 #![tactic(auto)]
 
+mod digits;
 mod either;
+mod either_machine;
 mod feeder;
 mod leaves;
 mod machine;
@@ -11,7 +13,9 @@ mod progress;
 mod rule;
 mod write;
 
+pub use digits::write_set;
 pub use either::EitherLeaves;
+pub use either_machine::EitherMachine;
 pub use feeder::Feeder;
 pub use leaves::Leaves;
 pub use machine::{LineMachine, MOST_LINE};

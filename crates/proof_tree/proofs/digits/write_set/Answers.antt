@@ -1,6 +1,6 @@
 use Rattle.std.proofs.Common.{◌∙◌, ap, length, length-set}
-use Rattle.proof_check.proofs.ListLemmas.{written_more}
-use Rattle.proof_check.proofs.claim.write_set.Goals as goal
+use Rattle.proof_tree.proofs.DigitLemmas.{written_more}
+use Rattle.proof_tree.proofs.digits.write_set.Goals as goal
 
 pub loop-i-preserved : goal.loop-i-preserved
 loop-i-preserved c = record {

@@ -1,6 +1,6 @@
 use Rattle.std.proofs.Common.{◌≡◌, length, take}
 use Rattle.proof_lines.specs.Acceptance.{digits_of}
-use Rattle.proof_check.proofs.claim.write_set.Given as goal
+use Rattle.proof_tree.proofs.digits.write_set.Given as goal
 
 abbrev pub invariant-loop-i : goal.invariant-loop-i
 invariant-loop-i l = record {

@@ -1,0 +1,5 @@
+pub mod ArcChainLemmas
+pub mod ArcLemmas
+pub mod ArcStepLemmas
+pub mod ArrivalLemmas
+pub mod ConstantLemmas
