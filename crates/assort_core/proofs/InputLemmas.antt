@@ -27,23 +27,24 @@ pub faulty_answer : (r : RequestData) (file : Files) (f : FileName) (row : ℕ) 
 faulty_answer r file f row code e = rw e refl
 
 -- Why the file of stage k isn't loaded is why there is no report.
-pub stage_unloaded : (stop : Stop) (k : ℕ) (s : Stage) (r : RequestData) (old new : StoreView) (i : InputsData) (name : List ℕ)
-    → slice_get (stages r) k ≡ Some s → s.name ≡ Some name → (IsTrue old.tells → GivesBefore k r old i)
+pub stage_unloaded : (stop : Stop) (k : ℕ) (s : Stage) (r : RequestData) (old new : StoreView) (name : List ℕ)
+    → slice_get (stages r) k ≡ Some s → s.name ≡ Some name → (IsTrue old.tells → (i : InputsData) × GivesBefore k r old i)
     → WhyUnloaded s.file name s.most old new stop → WhyStopped r old new stop
-stage_unloaded (Unread file) k s r old new i name at named before why = record {
+stage_unloaded (Unread file) k s r old new name at named before why = record {
   k = k;
   stage = s;
   stage_is = at;
   file_is = sym why.0;
   fails = (name, named, why.1);
-  before = λ told. (i, before told);
+  before = before;
 }
-stage_unloaded (Faulty file row code) k s r old new i name at named before why = λ told.
+stage_unloaded (Faulty file row code) k s r old new name at named before why = λ told.
     let large = why.3 told in
+    let there = before told in
     rw (why.0, why.1, why.2) (faulty_answer r old.file s.file 0 _
-    (fault_given (stages r) k s no_inputs i (Fault s.file 0 _) old.file at (before told) (large_given s i old.file name large.0 named large.1 large.2)))
-stage_unloaded UnwrittenProof k s r old new i name at named before why = absurd why
-stage_unloaded NoMemory k s r old new i name at named before why = tt
+    (fault_given (stages r) k s no_inputs there.0 (Fault s.file 0 _) old.file at there.1 (large_given s there.0 old.file name large.0 named large.1 large.2)))
+stage_unloaded UnwrittenProof k s r old new name at named before why = absurd why
+stage_unloaded NoMemory k s r old new name at named before why = tt
 
 -- A fault of the bytes of stage k is why there is no report.
 pub stage_refused : (e : InputFault) (k : ℕ) (s : Stage) (r : RequestData) (old new : StoreView) (i : InputsData) (name bytes : List ℕ)

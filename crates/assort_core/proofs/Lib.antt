@@ -3,8 +3,9 @@ pub mod TableLemmas
 pub mod TaskLemmas
 pub mod StageLemmas
 pub mod InputLemmas
-pub mod CertificateLemmas
 pub mod MixedLemmas
+pub mod SubjectLemmas
 pub mod SolveLemmas
 pub mod CheckLemmas
+pub mod LeavingLemmas
 pub mod RunLemmas

@@ -1,20 +1,11 @@
--- The goal of mixed logit may be searched by workers, and its top is the best assortment.
+-- The top of the goal of mixed logit is the best assortment.
 use Rattle.std.proofs.Common.{◌≡◌, Bool, List, Some, None}
 use Rattle.offer_model.specs.declared.products.ModelName.TheVariants.{Mixed}
 use Rattle.offer_model.specs.Problems.{ProblemData}
 use Rattle.offer_model.specs.Best.{IsBest}
 use Rattle.tree_search.specs.Goals.{IsTop}
-use Rattle.segment_bound.specs.MixedGoals.{IsInRange}
 use Rattle.segment_bound.specs.Tangents.{tangent_rules}
 use Rattle.segment_bound.proofs.GoalLemmas as goal
-use Rattle.worker_rounds.specs.Rounds.{AnswersInRange}
-
--- Its values and bounds are in the range of a desk's number.
-pub in_range : (p : ProblemData) → IsInRange (tangent_rules p) → AnswersInRange (tangent_rules p)
-in_range p h = record {
-  values = λ x e. h.values x;
-  bounds = λ node e. h.bounds node;
-}
 
 -- What is found is the best assortment: values and limits are those of mixed logit.
 pub best_from_top : (p : ProblemData) (x : List Bool) → p.model ≡ Mixed → IsTop (tangent_rules p) (Some x) → IsBest p x

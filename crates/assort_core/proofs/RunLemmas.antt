@@ -1,14 +1,13 @@
 -- What a run does, from what its parts do.
 use Rattle.std.proofs.Common.{◌≡◌, ◌∙◌, sym, refl, ap, arith, ℕ, ◌<◌, List, [], ◌++◌, length, Some, None, Result, Ok, Err, IsTrue, inl, inr}
 use Rattle.std.proofs.lemmas.List.{append-nil, take_all}
-use Rattle.offer_model.specs.declared.products.ModelName.{ModelName}
-use Rattle.offer_model.specs.declared.products.ModelName.TheVariants.{Logit, Attract, Mixed, Chain}
 use Rattle.offer_io.specs.Causes.{Rose}
 use Rattle.offer_io.specs.Stores.{StoreView}
 use Rattle.offer_io.specs.Sinks.{SinkView, Writes}
 use Rattle.catalogue_rows.specs.declared.faults.InputFault.TheVariants.{Fault}
 use Rattle.catalogue_rows.specs.declared.faults.InputFault.TheVariants as fault
 use Rattle.proof_lines.proofs.AcceptedIsBest.{accepted_is_best}
+use Rattle.proof_lines.proofs.AcceptedIsBracketed.{accepted_is_bracketed}
 use Rattle.assort_core.specs.declared.stop.Stop.{Stop}
 use Rattle.assort_core.specs.declared.stop.Stop.TheVariants.{Unread, Faulty, UnwrittenProof, NoMemory}
 use Rattle.assort_words.specs.declared.usage.Command.{Command}
@@ -16,8 +15,11 @@ use Rattle.assort_words.specs.declared.usage.Command.TheVariants.{Solve, Check}
 use Rattle.assort_words.specs.declared.usage.UsageFault.{UsageFault}
 use Rattle.assort_words.specs.Asked.{RequestData, asked_of}
 use Rattle.assort_core.specs.Lines.{usage_line, unwritten_line}
-use Rattle.assort_core.specs.Stages.{InputsData, model_asked, asked_problem}
-use Rattle.assort_core.specs.Certificates.{certificate_under}
+use Rattle.assort_core.specs.declared.subject.Subject.{Subject}
+use Rattle.assort_core.specs.declared.subject.Subject.TheVariants as S
+use Rattle.assort_core.specs.Stages.{InputsData}
+use Rattle.assort_core.specs.Subjects.{asked_subject}
+use Rattle.assort_core.specs.Certificates.{certificate_for}
 use Rattle.assort_core.specs.Judged.{Files, Given, judged}
 use Rattle.assort_core.specs.Deeds.{Outcome, answer, refusal}
 use Rattle.assort_core.specs.Outcomes.{IsOutcome, IsAnswerTo, IsAnswerFrom, deed_of}
@@ -115,6 +117,13 @@ steady_store UnwrittenProof r store store' four why steady holds = why.0.unstead
 steady_store (Faulty file row code) r store store' four why steady holds = absurd (omega arith)
 steady_store NoMemory r store store' four why steady holds = absurd (omega arith)
 
+-- a status below 4 is that of a fault
+pub below_four : (stop : Stop) → status_of stop < 4 → status_of stop ≡ 3
+below_four (Faulty file row code) small = refl
+below_four (Unread file) small = absurd (omega arith)
+below_four UnwrittenProof small = absurd (omega arith)
+below_four NoMemory small = absurd (omega arith)
+
 -- the cause of a store's failure
 pub store_rose : (stop : Stop) (r : RequestData) (store store' : StoreView) → status_of stop ≡ 4 → WhyStopped r store store' stop
     → Rose store.faults store'.faults
@@ -140,17 +149,14 @@ stopped_five (Faulty file row code) r store store' why can calm = absurd (omega 
 stopped_five NoMemory r store store' why can calm = refl
 
 -- What an accepted certificate claims is so.
-claimed : (m : ModelName) (r : RequestData) (i : InputsData) (text : List ℕ) → (certificate_under m r i).Accepted text
-    → (certificate_under m r i).Claimed text
-claimed Logit r i text h = (h.0, h.1, h.2, accepted_is_best (asked_problem r i) text h.0 h.1 h.2)
-claimed Attract r i text h = (h.0, h.1, h.2, accepted_is_best (asked_problem r i) text h.0 h.1 h.2)
-claimed Mixed r i text h = (h.0, h.1, h.2, accepted_is_best (asked_problem r i) text h.0 h.1 h.2)
-claimed Chain r i text h = absurd h
+claimed : (s : Subject) (text : List ℕ) → (certificate_for s).Accepted text → (certificate_for s).Claimed text
+claimed (S.Problem rows p) text h = (h.0, h.1, h.2, accepted_is_best p text h.0 h.1 h.2)
+claimed (S.Chain rows c) text h = (h.0, h.1, accepted_is_bracketed c text h.0 h.1)
 
 -- 0 of a command
 done_claims : (c : Command) (r : RequestData) (i : InputsData) (report : List ℕ) → (deed_of c r).IsDone i (answer 0 report) → (deed_of c r).IsClaimed i
 done_claims Solve r i report done = tt
-done_claims Check r i report (inl h) = claimed (model_asked r) r i i.proof h.0
+done_claims Check r i report (inl h) = claimed (asked_subject r i) i.proof h.0
 done_claims Check r i report (inr h) = let n : 0 ≡ 1 = ap (λ (o : Outcome). o.status) h.1 in absurd (omega (arith, n))
 
 pub claim_holds : (r : RequestData) (store : StoreView) (report : List ℕ) → IsAnswerTo r store.file (answer 0 report) → ClaimHolds r store

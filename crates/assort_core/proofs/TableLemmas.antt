@@ -1,11 +1,11 @@
 -- What the tables of a request give, one after the other.
-use Rattle.std.proofs.Common.{◌≡◌, ◌∙◌, refl, sym, subst, arith, zero, suc, ℕ, ◌+◌, ◌<◌, ◌≤◌, List, length, Some, Ok, Err, IsTrue}
+use Rattle.std.proofs.Common.{◌≡◌, ◌≢◌, ◌∙◌, refl, sym, subst, arith, zero, suc, ℕ, ◌+◌, ◌<◌, ◌≤◌, List, length, Some, Ok, Err, IsTrue}
 use Rattle.std.specs.Prelude.{slice_get, slice_index_or}
 use Rattle.std.proofs.lemmas.List.Elements.{All-nil}
 use Rattle.offer_model.specs.declared.products.ModelName.{ModelName}
 use Rattle.offer_io.specs.Stores.{StoreView, Passes}
 use Rattle.catalogue_rows.specs.declared.faults.FileName.{FileName}
-use Rattle.catalogue_rows.specs.declared.faults.FileName.TheVariants.{Products}
+use Rattle.catalogue_rows.specs.declared.faults.FileName.TheVariants.{Products, Arcs}
 use Rattle.catalogue_rows.specs.declared.faults.InputFault.{InputFault}
 use Rattle.catalogue_rows.specs.declared.faults.InputFault.TheVariants.{Fault}
 use Rattle.catalogue_rows.specs.declared.faults.InputFault.TheVariants as fault
@@ -16,7 +16,7 @@ use Rattle.catalogue.specs.SegmentTables.{NamedSegment}
 use Rattle.catalogue.specs.CatalogueProblems.{FitSegments}
 use Rattle.assort_words.specs.Asked.{RequestData}
 use Rattle.assort_core.specs.declared.stop.Stop.{Stop}
-use Rattle.assort_core.specs.Stages.{InputsData, no_inputs, tables, table_outcome, table_stage, stages, model_asked, unit_of, FitTogether}
+use Rattle.assort_core.specs.Stages.{InputsData, no_inputs, problem_tables, table_outcome, table_stage, stages, model_asked, unit_of, FitTogether}
 use Rattle.assort_core.specs.Judged.{Files, stage_given, GivesBefore}
 use Rattle.assort_core.specs.Stops.{WhyStopped}
 use Rattle.assort_core.proofs.StageLemmas.{next_given}
@@ -59,14 +59,14 @@ fit_none r = record {
 }
 
 -- The stage of each table, in their order.
-pub table_at : (r : RequestData) (k : ℕ) → k < length tables → slice_get (stages r) k ≡ Some (table_stage r (slice_index_or tables k Products))
+pub table_at : (r : RequestData) (k : ℕ) → k < length problem_tables → slice_get (stages r) k ≡ Some (table_stage r (slice_index_or problem_tables k Products))
 table_at r zero inside = refl
 table_at r (suc zero) inside = refl
 table_at r (suc (suc zero)) inside = refl
 table_at r (suc (suc (suc k))) inside = absurd (omega (arith, inside))
 
 -- The products file is the first.
-products_first : (k : ℕ) → k < length tables → slice_index_or tables k Products ≡ Products → k ≡ 0
+products_first : (k : ℕ) → k < length problem_tables → slice_index_or problem_tables k Products ≡ Products → k ≡ 0
 products_first zero inside e = refl
 products_first (suc zero) inside e = absurd (cc)
 products_first (suc (suc zero)) inside e = absurd (cc)
@@ -92,9 +92,16 @@ reading_start r store i e = record {
   first = λ zero. e;
 }
 
+-- No table of a problem is that of arcs.
+pub no_arcs_table : (k : ℕ) → k < length problem_tables → slice_index_or problem_tables k Products ≢ Arcs
+no_arcs_table zero inside e = absurd (cc)
+no_arcs_table (suc zero) inside e = absurd (cc)
+no_arcs_table (suc (suc zero)) inside e = absurd (cc)
+no_arcs_table (suc (suc (suc k))) inside e = absurd (omega (arith, inside))
+
 -- Before the products file there is nothing.
-pub reading_first : (r : RequestData) (old now : StoreView) (k : ℕ) (i : InputsData) → IsReading r old now k i → k < length tables
-    → slice_index_or tables k Products ≡ Products → i ≡ no_inputs
+pub reading_first : (r : RequestData) (old now : StoreView) (k : ℕ) (i : InputsData) → IsReading r old now k i → k < length problem_tables
+    → slice_index_or problem_tables k Products ≡ Products → i ≡ no_inputs
 reading_first r old now k i h inside e = h.first (products_first k inside e)
 
 passes_both : (old mid new : StoreView) → Passes old mid → Passes mid new → Passes old new
@@ -109,27 +116,27 @@ passes_both old mid new p q = record {
 }
 
 -- One more table was read.
-pub reading_more : (r : RequestData) (old mid new : StoreView) (k : ℕ) (i j : InputsData) → IsReading r old mid k i → k < length tables → Passes mid new
-    → (IsTrue mid.tells → stage_given (table_stage r (slice_index_or tables k Products)) i mid.file ≡ Some (Ok j)) → FitTogether r j → IsReading r old new (k + 1) j
+pub reading_more : (r : RequestData) (old mid new : StoreView) (k : ℕ) (i j : InputsData) → IsReading r old mid k i → k < length problem_tables → Passes mid new
+    → (IsTrue mid.tells → stage_given (table_stage r (slice_index_or problem_tables k Products)) i mid.file ≡ Some (Ok j)) → FitTogether r j → IsReading r old new (k + 1) j
 reading_more r old mid new k i j h inside passes now fit = record {
   passes = passes_both old mid new h.passes passes;
   fit = fit;
   given = λ told.
-      let here : stage_given (table_stage r (slice_index_or tables k Products)) i old.file ≡ Some (Ok j) =
-      subst (λ (file : Files). stage_given (table_stage r (slice_index_or tables k Products)) i file ≡ Some (Ok j)) (same_files old mid h.passes told) (now (rw h.passes.stays.tells told)) in
+      let here : stage_given (table_stage r (slice_index_or problem_tables k Products)) i old.file ≡ Some (Ok j) =
+      subst (λ (file : Files). stage_given (table_stage r (slice_index_or problem_tables k Products)) i file ≡ Some (Ok j)) (same_files old mid h.passes told) (now (rw h.passes.stays.tells told)) in
       let e : k + 1 ≡ suc k = omega arith in
-      rw e (next_given (stages r) k (table_stage r (slice_index_or tables k Products)) no_inputs i j old.file (table_at r k inside) (h.given told) here);
+      rw e (next_given (stages r) k (table_stage r (slice_index_or problem_tables k Products)) no_inputs i j old.file (table_at r k inside) (h.given told) here);
   first = λ zero. absurd (omega (arith, zero));
 }
 
 -- Why a table stops a run.
-pub reading_stopped : (stop : Stop) (r : RequestData) (old mid new : StoreView) (k : ℕ) (i : InputsData) → IsReading r old mid k i → k < length tables
-    → ((n : ℕ) → slice_get (stages r) n ≡ Some (table_stage r (slice_index_or tables k Products)) → (IsTrue mid.tells → GivesBefore n r mid i) → WhyStopped r mid new stop)
+pub reading_stopped : (stop : Stop) (r : RequestData) (old mid new : StoreView) (k : ℕ) (i : InputsData) → IsReading r old mid k i → k < length problem_tables
+    → ((n : ℕ) → slice_get (stages r) n ≡ Some (table_stage r (slice_index_or problem_tables k Products)) → (IsTrue mid.tells → GivesBefore n r mid i) → WhyStopped r mid new stop)
     → WhyStopped r old new stop
 reading_stopped stop r old mid new k i h inside why =
     later_stop stop r old mid new h.passes (why k (table_at r k inside) (gives_later k r old mid i h.passes h.given))
 
 -- All tables were read.
-pub reading_all : (r : RequestData) (old now : StoreView) (k : ℕ) (i : InputsData) → IsReading r old now k i → k ≡ length tables
-    → IsTrue old.tells → GivesBefore (length tables) r old i
+pub reading_all : (r : RequestData) (old now : StoreView) (k : ℕ) (i : InputsData) → IsReading r old now k i → k ≡ length problem_tables
+    → IsTrue old.tells → GivesBefore (length problem_tables) r old i
 reading_all r old now k i h all told = subst (λ n. GivesBefore n r old i) all (h.given told)

@@ -1,14 +1,18 @@
--- What a certificate is, by model: which texts are accepted, which are written, and what an accepted one says. Own.
+-- What a certificate is: which texts are accepted, which are written, and what an accepted one says. Own.
 use Rattle.std.specs.Prelude.{ℕ, Bool, List}
-use Rattle.offer_model.specs.declared.products.ModelName.{ModelName}
-use Rattle.offer_model.specs.declared.products.ModelName.TheVariants.{Logit, Attract, Mixed, Chain}
 use Rattle.offer_model.specs.Problems.{ProblemData}
 use Rattle.offer_model.specs.Best.{IsBest}
+use Rattle.offer_model.specs.Chains.{ChainData}
+use Rattle.offer_model.specs.Claims.{IsBracketed}
+use Rattle.offer_model.specs.Stopping.{StoppingData}
 use Rattle.proof_lines.specs.Trees.{Tree}
-use Rattle.proof_lines.specs.Acceptance.{Accepts, IsAccepted}
-use Rattle.proof_lines.specs.Writing.{IsWritten}
+use Rattle.proof_lines.specs.Acceptance.{Accepts, IsAccepted, AcceptsChain, IsAcceptedChain}
+use Rattle.proof_lines.specs.Writing.{IsWritten, IsWrittenChain}
 use Rattle.assort_words.specs.Asked.{RequestData}
-use Rattle.assort_core.specs.Stages.{InputsData, model_asked, asked_problem}
+use Rattle.assort_core.specs.declared.subject.Subject.{Subject}
+use Rattle.assort_core.specs.declared.subject.Subject.TheVariants as S
+use Rattle.assort_core.specs.Stages.{InputsData}
+use Rattle.assort_core.specs.Subjects.{asked_subject}
 
 pub record Certificate : Type 1 where
   pub Accepted : List ℕ → Type 0
@@ -19,21 +23,24 @@ pub record Certificate : Type 1 where
 abbrev pub ClaimsBest : ProblemData → List ℕ → Type 0
 ClaimsBest p text = (x : List Bool) × (tree : Tree) × IsAccepted p text x tree × IsBest p x
 
+-- The text is accepted with an assortment and two bounds: that one reaches the lower bound, none exceeds the upper one, and
+-- they are close together.
+abbrev pub ClaimsBounds : ChainData → List ℕ → Type 0
+ClaimsBounds c text = (s : StoppingData) × IsAcceptedChain c text s × IsBracketed c s.set s.lo s.up
+
 -- A certificate of the best assortment of a problem.
 abbrev pub problem_certificate : ProblemData → Certificate
 problem_certificate p = record { Accepted = Accepts p; Written = IsWritten p; Claimed = ClaimsBest p }
 
--- No text is one.
-abbrev pub no_certificate : Certificate
-no_certificate = record { Accepted = λ text. ⊥; Written = λ text. ⊥; Claimed = λ text. ⊥ }
+-- A certificate of an assortment of a chain and of its bounds.
+abbrev pub chain_certificate : ChainData → Certificate
+chain_certificate c = record { Accepted = AcceptsChain c; Written = IsWrittenChain c; Claimed = ClaimsBounds c }
 
--- The certificates of a request under a model. No command takes chains yet.
-abbrev pub certificate_under : ModelName → RequestData → InputsData → Certificate
-certificate_under Logit r i = problem_certificate (asked_problem r i)
-certificate_under Attract r i = problem_certificate (asked_problem r i)
-certificate_under Mixed r i = problem_certificate (asked_problem r i)
-certificate_under Chain r i = no_certificate
+-- The certificates of a subject.
+abbrev pub certificate_for : Subject → Certificate
+certificate_for (S.Problem rows p) = problem_certificate p
+certificate_for (S.Chain rows c) = chain_certificate c
 
 -- The certificates of a request over what its files give.
 abbrev pub certificate_of : RequestData → InputsData → Certificate
-certificate_of r i = certificate_under (model_asked r) r i
+certificate_of r i = certificate_for (asked_subject r i)

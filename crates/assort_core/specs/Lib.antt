@@ -1,6 +1,8 @@
 pub mod Lines
 pub mod Stages
 pub mod Judged
+pub mod Subjects
+pub mod Solutions
 pub mod Certificates
 pub mod Deeds
 pub mod SolveOutcomes

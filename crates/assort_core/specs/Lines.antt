@@ -11,6 +11,7 @@ use Rattle.catalogue_rows.specs.declared.faults.Code.TheVariants.{BadName, BadNu
 use Rattle.catalogue_rows.specs.ProductTables.{product_columns}
 use Rattle.catalogue.specs.LimitTables.{limit_columns}
 use Rattle.catalogue.specs.SegmentTables.{segment_columns}
+use Rattle.arc_tables.specs.ArcTables.{arc_columns}
 
 -- What is wrong with the words, without the place.
 abbrev pub cause_text : UsageCode → List ℕ
@@ -56,7 +57,7 @@ abbrev pub column_text : FileName → ℕ → List ℕ
 column_text Products c = slice_index_or product_columns c []
 column_text Limits c = slice_index_or limit_columns c []
 column_text Segments c = slice_index_or segment_columns c []
-column_text Arcs c = []
+column_text Arcs c = slice_index_or arc_columns c []
 column_text ProofFile c = []
 column_text Offer c = []
 

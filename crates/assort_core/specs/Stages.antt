@@ -4,6 +4,8 @@ use Rattle.std.specs.Prelude.{◌≡◌, ℕ, List, [], ◌∷◌, ◌++◌, map
 use Rattle.offer_model.specs.declared.products.Limit.{Limit}
 use Rattle.offer_model.specs.declared.products.ModelName.{ModelName}
 use Rattle.offer_model.specs.declared.products.ModelName.TheVariants.{Logit, Attract, Mixed, Chain}
+use Rattle.offer_model.specs.declared.arc.Arc.{Arc}
+use Rattle.offer_model.specs.Chains.{ChainData}
 use Rattle.offer_model.specs.Problems.{ProblemData}
 use Rattle.offer_model.specs.Validity.{HasLimits, IsPositiveAmount}
 use Rattle.catalogue_rows.specs.Sizes.{most_table}
@@ -15,21 +17,23 @@ use Rattle.catalogue_rows.specs.ProductTables.{products_outcome}
 use Rattle.catalogue.specs.LimitTables.{limits_outcome}
 use Rattle.catalogue.specs.SegmentTables.{NamedSegment, segments_outcome}
 use Rattle.catalogue.specs.CatalogueProblems.{FitSegments, problem_data_of}
+use Rattle.arc_tables.specs.ArcTables.{arcs_outcome, chain_data_of}
 use Rattle.assort_words.specs.declared.usage.Command.{Command}
 use Rattle.assort_words.specs.declared.usage.Command.TheVariants.{Solve, Check}
-use Rattle.assort_words.specs.Asked.{RequestData, asked_model, asked_products, asked_limits, asked_segments, asked_none, asked_unit, asked_proof}
+use Rattle.assort_words.specs.Asked.{RequestData, asked_model, asked_products, asked_limits, asked_segments, asked_arcs, asked_none, asked_away, asked_unit, asked_scale, asked_proof}
 
--- What the files give: the catalogue's rows, the limits, the segments, the text of a proof that is checked. A part whose file isn't asked
--- for is empty.
+-- What the files give: the catalogue's rows, the limits, the segments, the arcs, the text of a proof that is checked. A part
+-- whose file isn't asked for is empty.
 pub record InputsData : Type 0 where
   pub rows : List RowData
   pub limits : List Limit
   pub segments : List NamedSegment
+  pub arcs : List Arc
   pub proof : List ℕ
 
 -- What there is before any file.
 abbrev pub no_inputs : InputsData
-no_inputs = record { rows = []; limits = []; segments = []; proof = [] }
+no_inputs = record { rows = []; limits = []; segments = []; arcs = []; proof = [] }
 
 -- A file that is read where it has a name, how many bytes it may have, and what its bytes give over what there is.
 pub record Stage : Type 0 where
@@ -61,18 +65,30 @@ unit_under Chain unit = 1
 abbrev pub unit_of : RequestData → ℕ
 unit_of r = unit_under (model_asked r) (asked_unit r)
 
+-- The weight of the customers of a chain who arrive at no product.
+abbrev pub away_of : RequestData → ℕ
+away_of r = unwrap_or (asked_away r) 0
+
+-- The parts in which a chain counts the customers at a product. They are given wherever there is a chain.
+abbrev pub scale_of : RequestData → ℕ
+scale_of r = unwrap_or (asked_scale r) 1
+
 -- ---- The stages.
+
+-- The tables that a problem may have, in the order of work.
+abbrev pub problem_tables : List FileName
+problem_tables = Products ∷ Limits ∷ Segments ∷ []
 
 -- The tables that a request may name, in the order of work.
 abbrev pub tables : List FileName
-tables = Products ∷ Limits ∷ Segments ∷ []
+tables = Products ∷ Limits ∷ Segments ∷ Arcs ∷ []
 
 -- The name of a table, where the request gives one.
 abbrev pub table_name : FileName → RequestData → Option (List ℕ)
 table_name Products r = asked_products r
 table_name Limits r = asked_limits r
 table_name Segments r = asked_segments r
-table_name Arcs r = None
+table_name Arcs r = asked_arcs r
 table_name Proof r = None
 table_name Offer r = None
 
@@ -81,7 +97,7 @@ abbrev pub table_outcome : FileName → RequestData → InputsData → List ℕ 
 table_outcome Products r i bytes = with_part (products_outcome (model_asked r) bytes) (λ rows. record i { rows = rows })
 table_outcome Limits r i bytes = with_part (limits_outcome i.rows bytes) (λ limits. record i { limits = limits })
 table_outcome Segments r i bytes = with_part (segments_outcome i.rows (unit_of r) bytes) (λ segments. record i { segments = segments })
-table_outcome Arcs r i bytes = Ok i
+table_outcome Arcs r i bytes = with_part (arcs_outcome i.rows (scale_of r) bytes) (λ arcs. record i { arcs = arcs })
 table_outcome Proof r i bytes = Ok i
 table_outcome Offer r i bytes = Ok i
 
@@ -115,6 +131,10 @@ stages r = map (table_stage r) tables ++ proof_stage r ∷ []
 -- The problem of a request over what its files give.
 abbrev pub asked_problem : RequestData → InputsData → ProblemData
 asked_problem r i = problem_data_of i.rows (model_asked r) (unwrap_or (asked_none r) 0) (unit_of r) i.segments i.limits
+
+-- The chain of a request over what its files give.
+abbrev pub asked_chain : RequestData → InputsData → ChainData
+asked_chain r i = chain_data_of i.rows (scale_of r) (away_of r) i.arcs
 
 -- What the tables give makes a problem: each reader answers only what may stand in one.
 pub record FitTogether (r : RequestData) (i : InputsData) : Type 0 where

@@ -12,7 +12,7 @@ use Rattle.assort_core.specs.declared.stop.Stop.TheVariants.{Unread, Faulty, Unw
 use Rattle.assort_core.specs.Lines.{fault_line, unread_line, unwritten_proof_line, memory_line}
 use Rattle.assort_core.specs.Deeds.{refusal}
 use Rattle.assort_core.specs.Outcomes.{IsAnswerTo, output_of}
-use Rattle.assort_core.specs.Runs.{CannotRead, CannotReadFile, CannotWrite}
+use Rattle.assort_core.specs.Runs.{CannotRead, CannotReadFile, CannotWrite, OthersStand, OutputStands, OutputIsSealed, OutputMayStand, FilesStand, Endures}
 
 abbrev pub status_of : Stop → ℕ
 status_of (Unread file) = 4
@@ -38,6 +38,20 @@ WhyStopped r store store' (Faulty file row code) =
     IsTrue store.tells → IsAnswerTo r store.file (refusal 3 (fault_line file row code))
 WhyStopped r store store' UnwrittenProof = CannotWrite r store store' × ((output_of r).line ≡ unwritten_proof_line)
 WhyStopped r store store' NoMemory = Unit {0}
+
+-- What a command leaves of the files where it has an answer: its output is whole and sealed, and all others are as they were.
+pub record LeavesWhole (r : RequestData) (store store' : StoreView) : Type 0 where
+  pub others : OthersStand r store store'
+  pub proof : OutputStands r store store'
+  pub sealed : OutputIsSealed r store'
+  pub endures : Endures store store'
+
+-- What it leaves of them where it stops: its output is as it was, or a part from its front, and at a fault no file changed. Within the crate, as the last.
+pub record LeavesPart (r : RequestData) (store store' : StoreView) (stop : Stop) : Type 0 where
+  pub others : OthersStand r store store'
+  pub part : OutputMayStand r store store'
+  pub kept : status_of stop ≡ 3 → FilesStand store store'
+  pub endures : Endures store store'
 
 -- Why a file isn't loaded. Want of memory is free.
 abbrev pub WhyUnloaded : FileName → List ℕ → ℕ → StoreView → StoreView → Stop → Type 0

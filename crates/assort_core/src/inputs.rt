@@ -1,32 +1,37 @@
 //! The files of a request, loaded and judged one after the other.
-ghost use Rattle.std.specs.Prelude.{◌≡◌, ◌≢◌, ◌≤◌, ◌<◌, ℕ, Some, Ok, Err, IfOk, IfErr, OnOk, IsTrue, length, slice_get};
+ghost use Rattle.std.specs.Prelude.{◌≡◌, ◌≢◌, ◌≤◌, ◌<◌, ℕ, Some, None, Ok, Err, IfOk, IfErr, OnOk, IsTrue, length, slice_get};
 ghost use Rattle.offer_model.specs.declared.products.ModelName.TheVariants as model;
 ghost use Rattle.offer_io.specs.Stores.{Passes};
-ghost use Rattle.catalogue_rows.specs.declared.faults.FileName.TheVariants.{Products};
+ghost use Rattle.catalogue_rows.specs.declared.faults.FileName.TheVariants.{Products, Arcs};
 ghost use Rattle.catalogue_rows.specs.Faults.{OnFault};
 ghost use Rattle.catalogue_rows.specs.Sizes.{most_table};
-ghost use Rattle.assort_core.specs.Stages.{no_inputs, tables, table_outcome, table_stage, stages, asked_problem, FitTogether};
+ghost use Rattle.assort_words.specs.Asked.{asked_arcs};
+ghost use Rattle.assort_core.specs.Stages.{no_inputs, problem_tables, table_outcome, table_stage, stages, model_asked, asked_problem, FitTogether};
 ghost use Rattle.assort_core.specs.Judged.{stage_given, GivesBefore};
+ghost use Rattle.assort_core.specs.Solutions.{HasRows};
+ghost use Rattle.assort_core.specs.Subjects.{GivesSubject};
 ghost use Rattle.assort_core.specs.Stops.{WhyStopped, WhyUnloaded};
 
+use crate::chain_inputs::read_chain_subject;
 use crate::stop::Stop;
+use crate::subject::Subject;
 use crate::task::Task;
 use catalogue::{
     Catalogue, Code, FileName, InputFault, MOST_TABLE, SegmentTable, problem_of, read_limits,
     read_products, read_segments,
 };
 use offer_io::{LoadFault, Store, load};
-use offer_model::{Bytes, Limits, NoMemory, Problem};
+use offer_model::{Bytes, Limits, ModelName, NoMemory, Problem};
 use std::alloc::Global;
 use std::marker::Model;
 
-/// The tables that a request may name, in the order of work.
+/// The tables that a problem may have, in the order of work.
 pub(crate) const TABLES: [FileName; 3] = [FileName::Products, FileName::Limits, FileName::Segments];
 
-/// What the tables of a request give. A part whose table isn't named is empty.
+/// What the tables of a problem give. A part whose table isn't named is empty.
 #[derive(Drop)]
-pub(crate) struct Tables {
-    pub(crate) catalogue: Catalogue,
+struct Tables {
+    catalogue: Catalogue,
     limits: Limits,
     segments: SegmentTable,
 }
@@ -37,14 +42,7 @@ impl Model for Tables {
 
     ghost Value = { InputsData };
 
-    ghost view = { λ t. record { rows = t.catalogue; limits = t.limits.items; segments = t.segments; proof = [] } };
-}
-
-/// The tables of a request, and the problem that they make.
-#[derive(Drop)]
-pub(crate) struct Inputs {
-    pub(crate) tables: Tables,
-    pub(crate) problem: Problem,
+    ghost view = { λ t. record { rows = t.catalogue; limits = t.limits.items; segments = t.segments; arcs = []; proof = [] } };
 }
 
 /// The bytes of an input that isn't above its limit. Every input of every command is read by this call.
@@ -89,6 +87,7 @@ impl Tables {
         file: FileName,
         bytes: &[u8],
     ) -> Result<(), InputFault>
+        requires known { file ≢ Arcs }
         requires first { file ≡ Products → self.old ≡ no_inputs }
         requires fit { FitTogether task.now self.old }
         requires size { length bytes.now ≤ most_table }
@@ -116,6 +115,7 @@ fn read_table<S: Store>(
     file: FileName,
     tables: &mut Tables,
 ) -> Result<(), Stop>
+    requires known { file ≢ Arcs }
     requires first { file ≡ Products → tables.old ≡ no_inputs }
     requires fit { FitTogether task.now tables.old }
     ensures passes { Passes (S.view store.old) (S.view store.new) }
@@ -141,7 +141,7 @@ fn read_table<S: Store>(
 /// What the tables of a request give, one after the other.
 fn read_tables<S: Store>(alloc: Global, task: &Task<'_>, store: &mut S) -> Result<Tables, Stop>
     ensures passes { Passes (S.view store.old) (S.view store.new) }
-    ensures given { IfOk result (λ t. IsTrue (S.view store.old).tells → GivesBefore (length tables) task.now (S.view store.old) t) }
+    ensures given { IfOk result (λ t. IsTrue (S.view store.old).tells → GivesBefore (length problem_tables) task.now (S.view store.old) t) }
     ensures fit { IfOk result (FitTogether task.now) }
     ensures stopped { IfErr result (WhyStopped task.now (S.view store.old) (S.view store.new)) }
 {
@@ -157,7 +157,8 @@ fn read_tables<S: Store>(alloc: Global, task: &Task<'_>, store: &mut S) -> Resul
 
 /// The problem that the tables make.
 fn problem_asked(alloc: Global, task: &Task<'_>, tables: &Tables) -> Result<Problem, NoMemory>
-    requires { FitTogether task.now tables.now }
+    requires model { model_asked task.now ≢ model.Chain }
+    requires fit { FitTogether task.now tables.now }
     ensures { IfOk result (λ p. p ≡ asked_problem task.now tables.now) }
 {
     problem_of(
@@ -171,16 +172,17 @@ fn problem_asked(alloc: Global, task: &Task<'_>, tables: &Tables) -> Result<Prob
     )
 }
 
-/// What a request's tables give, and the problem that they make.
-pub(crate) fn read_inputs<S: Store>(
+/// The problem of a request, from its tables.
+pub(crate) fn read_problem<S: Store>(
     alloc: Global,
     task: &Task<'_>,
     store: &mut S,
-) -> Result<Inputs, Stop>
+) -> Result<Subject, Stop>
+    requires model { model_asked task.now ≢ model.Chain }
+    requires arcs { asked_arcs task.now ≡ None }
     ensures passes { Passes (S.view store.old) (S.view store.new) }
-    ensures problem { IfOk result (λ i. i.problem ≡ asked_problem task.now i.tables) }
-    ensures model { IfOk result (λ i. i.problem.model ≢ model.Chain) }
-    ensures given { IfOk result (λ i. IsTrue (S.view store.old).tells → GivesBefore (length tables) task.now (S.view store.old) i.tables) }
+    ensures rows { IfOk result HasRows }
+    ensures given { IfOk result (λ s. IsTrue (S.view store.old).tells → GivesSubject task.now (S.view store.old) s) }
     ensures stopped { IfErr result (WhyStopped task.now (S.view store.old) (S.view store.new)) }
 {
     let tables = match read_tables(alloc, task, store) {
@@ -188,5 +190,24 @@ pub(crate) fn read_inputs<S: Store>(
         Ok(tables) => tables,
     };
     let problem = problem_asked(alloc, task, &tables)?;
-    Ok(Inputs { tables, problem })
+    Ok(Subject::Problem(tables.catalogue, problem))
+}
+
+/// What a request is about, from its files.
+pub(crate) fn read_subject<S: Store>(
+    alloc: Global,
+    task: &Task<'_>,
+    store: &mut S,
+) -> Result<Subject, Stop>
+    ensures passes { Passes (S.view store.old) (S.view store.new) }
+    ensures rows { IfOk result HasRows }
+    ensures given { IfOk result (λ s. IsTrue (S.view store.old).tells → GivesSubject task.now (S.view store.old) s) }
+    ensures stopped { IfErr result (WhyStopped task.now (S.view store.old) (S.view store.new)) }
+{
+    match task.model() {
+        ModelName::Chain => read_chain_subject(alloc, task, store),
+        ModelName::Logit | ModelName::Attract | ModelName::Mixed => {
+            read_problem(alloc, task, store)
+        }
+    }
 }

@@ -2,13 +2,16 @@
 #![tactic(auto)]
 
 mod answer;
+mod chain_inputs;
 mod commands;
 mod inputs;
 mod lines;
 mod means;
 mod optimum;
 mod output_file;
+mod solved;
 mod stop;
+mod subject;
 mod task;
 mod top;
 

@@ -65,7 +65,7 @@ impl Fit for Method {
 }
 
 /// The best assortment under mixed logit, found by so many workers.
-#[tactic(auto, using(crate::proofs::MixedLemmas::in_range, crate::proofs::MixedLemmas::best_from_top))]
+#[tactic(auto, using(crate::proofs::MixedLemmas::best_from_top))]
 fn best_mixed<R: Threads + Sync, G: Gate + Sync>(
     means: &Means<'_, R, G>,
     workers: u64,

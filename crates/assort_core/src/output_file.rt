@@ -1,35 +1,31 @@
 //! An output file: made, written, sealed.
 ghost use Rattle.std.specs.Prelude.{◌≡◌, ◌⊎◌, OnOk, OnErr, IfErr, IsErrOf, IsTrue};
-ghost use Rattle.offer_model.specs.Best.{IsBest};
 ghost use Rattle.offer_io.specs.Causes.{Rose};
 ghost use Rattle.offer_io.specs.Stores.{OthersStay};
-ghost use Rattle.proof_lines.specs.Writing.{IsWritten};
+ghost use Rattle.assort_core.specs.Certificates.{certificate_for};
 ghost use Rattle.assort_core.specs.Runs.{Endures};
 ghost use Rattle.assort_core.specs.OutputFiles.{HoldsText, HoldsPart};
+ghost use Rattle.assort_core.specs.Solutions.{subject_of};
 
-use crate::optimum::{Fit, Method};
+use crate::solved::{Found, Solved};
 use crate::stop::Stop;
 use offer_io::Store;
-use offer_model::{Assortment, Problem};
 use proof_write::ProofFault;
 use std::alloc::Global;
 
-/// Writes the proof of the best assortment to a file of this name.
+/// Writes the proof of what was found to a file of this name.
 pub(crate) fn write_proof<S: Store>(
     alloc: Global,
-    p: &Problem,
-    best: &Assortment,
-    method: &mut Method,
+    solved: &mut Solved,
     store: &mut S,
     name: &str,
 ) -> Result<(), Stop>
-    requires fits { ⟦<Method as Fit>⟧.fits method.old p.now }
-    requires best { IsBest p.now best.now }
+    requires holds { ⟦<Solved as Found>⟧.holds solved.old }
 
     // What the file holds afterwards.
-    ensures written { OnOk result (HoldsText (IsWritten p.now) name.now (S.view store.new)) }
+    ensures written { OnOk result (HoldsText (certificate_for (subject_of solved.old)).Written name.now (S.view store.new)) }
     ensures sealed { OnOk result (IsTrue (S.view store.new).sealed) }
-    ensures part { OnErr result (HoldsPart (IsWritten p.now) name.now (S.view store.old) (S.view store.new)) }
+    ensures part { OnErr result (HoldsPart (certificate_for (subject_of solved.old)).Written name.now (S.view store.old) (S.view store.new)) }
     ensures others { IsTrue (S.view store.old).tells → OthersStay name.now (S.view store.old) (S.view store.new) }
 
     // Why it isn't written.
@@ -41,7 +37,7 @@ pub(crate) fn write_proof<S: Store>(
     if store.create(name).is_err() {
         return Err(Stop::UnwrittenProof);
     }
-    match method.write(alloc, p, best, store) {
+    match solved.write(alloc, store) {
         Err(ProofFault::WriteFault) => return Err(Stop::UnwrittenProof),
         Err(ProofFault::NoMemory) => return Err(Stop::NoMemory),
         Ok(()) => {}

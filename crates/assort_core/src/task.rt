@@ -1,11 +1,11 @@
 //! A request with all that its command needs.
-ghost use Rattle.std.specs.Prelude.{◌≡◌, ◌≢◌, ◌≤◌, Some, unwrap_or};
+ghost use Rattle.std.specs.Prelude.{◌≡◌, ◌≢◌, ◌≤◌, Some, None, unwrap_or};
 ghost use Rattle.std.specs.Option.{option_copied};
 ghost use Rattle.offer_model.specs.Validity.{IsPositiveAmount, IsRatioModel};
 ghost use Rattle.offer_model.specs.declared.products.ModelName.TheVariants as name;
 ghost use Rattle.assort_words.specs.declared.usage.Command.TheVariants as command;
-ghost use Rattle.assort_words.specs.Asked.{asked_of, asked_none, asked_proof};
-ghost use Rattle.assort_core.specs.Stages.{model_asked, unit_of, table_name};
+ghost use Rattle.assort_words.specs.Asked.{asked_of, asked_products, asked_limits, asked_segments, asked_arcs, asked_none, asked_proof, asked_workers};
+ghost use Rattle.assort_core.specs.Stages.{model_asked, unit_of, away_of, scale_of, table_name};
 
 use assort_words::{Command, Request, UsageFault, read_words};
 use catalogue::FileName;
@@ -40,7 +40,11 @@ impl<'a> Task<'a> {
 
     pub(crate) fn model(&self) -> ModelName
         ensures value { result ≡ model_asked self.now }
-        ensures problem { result ≢ name.Chain }
+
+        // What is of no use to a model isn't given.
+        ensures arcs { model_asked self.now ≢ name.Chain → asked_arcs self.now ≡ None }
+        ensures limits { model_asked self.now ≡ name.Chain → asked_limits self.now ≡ None }
+        ensures segments { model_asked self.now ≡ name.Chain → asked_segments self.now ≡ None }
     {
         self.request.model().unwrap()
     }
@@ -53,8 +57,40 @@ impl<'a> Task<'a> {
             FileName::Products => self.request.products(),
             FileName::Limits => self.request.limits(),
             FileName::Segments => self.request.segments(),
-            FileName::Arcs | FileName::Proof | FileName::Offer => None,
+            FileName::Arcs => self.request.arcs(),
+            FileName::Proof | FileName::Offer => None,
         }
+    }
+
+    /// The name of the products file.
+    pub(crate) fn products(&self) -> &'a str
+        ensures { asked_products self.now ≡ Some result.now }
+    {
+        self.request.products().unwrap()
+    }
+
+    /// The name of the arcs file of a chain.
+    pub(crate) fn arcs(&self) -> &'a str
+        requires { model_asked self.now ≡ name.Chain }
+        ensures { asked_arcs self.now ≡ Some result.now }
+    {
+        self.request.arcs().unwrap()
+    }
+
+    /// The weight of the customers of a chain who arrive at no product, 0 where none is given.
+    pub(crate) fn away(&self) -> u64
+        ensures value { result ≡ away_of self.now }
+        ensures range { result ≤ 1000000000 }
+    {
+        self.request.away().unwrap_or(0)
+    }
+
+    /// The parts in which a chain counts the customers at a product.
+    pub(crate) fn scale(&self) -> u64
+        ensures value { result ≡ scale_of self.now }
+        ensures range { (1 ≤ result) × (result ≤ 10000) }
+    {
+        self.request.scale().unwrap_or(1)
     }
 
     /// The weight of buying nothing, 0 under mixed logit.
@@ -78,7 +114,8 @@ impl<'a> Task<'a> {
 
     /// The number of threads that search, 1 where none is given.
     pub(crate) fn workers(&self) -> u64
-        ensures { (1 ≤ result) × (result ≤ 64) }
+        ensures value { result ≡ unwrap_or (asked_workers self.now) 1 }
+        ensures range { (1 ≤ result) × (result ≤ 64) }
     {
         self.request.workers().unwrap_or(1)
     }

@@ -1,9 +1,10 @@
 -- What the commands print. Own.
-use Rattle.std.specs.Prelude.{ℕ, List, [], ◌∷◌, ◌++◌, Bool, true, false, codes, decimal, map}
+use Rattle.std.specs.Prelude.{ℕ, List, [], ◌∷◌, ◌++◌, Bool, true, false, codes, decimal, length, map}
 use Rattle.offer_model.specs.declared.products.ModelName.{ModelName}
 use Rattle.offer_model.specs.declared.products.ModelName.TheVariants.{Logit, Attract, Mixed, Chain}
 use Rattle.offer_model.specs.Problems.{ProblemData, product_count, first_segment}
 use Rattle.offer_model.specs.Revenue.{gain_of, weight_of, value_of}
+use Rattle.offer_model.specs.Stopping.{StoppingData}
 use Rattle.catalogue_rows.specs.Rows.{RowData}
 
 abbrev pub model_text : ModelName → List ℕ
@@ -23,8 +24,8 @@ word_text [] = codes "-"
 word_text (b ∷ x) = map digit_of (b ∷ x)
 
 -- The model and the number of products.
-abbrev pub head_lines : ProblemData → List ℕ
-head_lines p = codes "model " ++ model_text p.model ++ codes "\nproducts " ++ decimal (product_count p) ++ codes "\n"
+abbrev pub head_lines : ModelName → ℕ → List ℕ
+head_lines model products = codes "model " ++ model_text model ++ codes "\nproducts " ++ decimal products ++ codes "\n"
 
 -- The assortment.
 abbrev pub set_line : List Bool → List ℕ
@@ -63,4 +64,12 @@ offer_lines (row ∷ rows) (b ∷ x) = offer_line_if b row.name ++ offer_lines r
 
 -- The report of an assortment.
 abbrev pub problem_report : List RowData → ProblemData → List Bool → List ℕ
-problem_report rows p x = head_lines p ++ offer_lines rows x ++ set_line x ++ value_lines p x
+problem_report rows p x = head_lines p.model (product_count p) ++ offer_lines rows x ++ set_line x ++ value_lines p x
+
+-- What a chain's assortment brings at least, and any assortment at most.
+abbrev pub bound_lines : ℕ → ℕ → List ℕ
+bound_lines lo up = codes "lower " ++ decimal lo ++ codes "\nupper " ++ decimal up ++ codes "\n"
+
+-- The report of a chain's answer.
+abbrev pub chain_report : List RowData → StoppingData → List ℕ
+chain_report rows s = head_lines Chain (length rows) ++ offer_lines rows s.set ++ set_line s.set ++ bound_lines s.lo s.up

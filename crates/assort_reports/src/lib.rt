@@ -3,4 +3,4 @@
 
 mod report;
 
-pub use report::report_problem;
+pub use report::{report_chain, report_problem};

@@ -1,10 +1,11 @@
-//! The report of an assortment: model, offers, set and value.
+//! The report of an assortment: model, offers, set and what it earns.
 ghost use Rattle.std.specs.Prelude.{◌≡◌, ◌++◌, ◌<◌, length, codes, decimal, OnOk, IfOk};
 ghost use Rattle.offer_model.specs.Problems.{product_count};
 ghost use Rattle.offer_model.specs.Validity.{IsRatioModel};
-ghost use Rattle.assort_reports.specs.Reports.{model_text, word_text, head_lines, set_line, ratio_line, mixed_lines, value_lines, digit_of, offer_line, offer_line_if, offer_lines, problem_report};
+ghost use Rattle.assort_reports.specs.Reports.{model_text, word_text, head_lines, set_line, ratio_line, mixed_lines, value_lines, bound_lines, digit_of, offer_line, offer_line_if, offer_lines, problem_report, chain_report};
 
 use catalogue::Catalogue;
+use chain_values::ChainAnswer;
 use itoa::Buffer;
 use offer_model::{Assortment, Bytes, ModelName, NoMemory, Problem, mixed_value, revenue};
 use std::alloc::Global;
@@ -36,13 +37,14 @@ fn model_text(model: ModelName) -> &'static str
     }
 }
 
-fn put_head(text: &mut Bytes, p: &Problem) -> Result<(), NoMemory>
-    ensures { OnOk result (text.new.items ≡ text.old.items ++ head_lines p.now) }
+/// The model and how many products there are.
+fn put_head(text: &mut Bytes, model: ModelName, products: usize) -> Result<(), NoMemory>
+    ensures { OnOk result (text.new.items ≡ text.old.items ++ head_lines model products) }
 {
     put(text, b"model ")?;
-    put(text, model_text(p.model()).as_bytes())?;
+    put(text, model_text(model).as_bytes())?;
     put(text, b"\nproducts ")?;
-    put_number(text, p.products().len() as u128)?;
+    put_number(text, products as u128)?;
     put(text, b"\n")
 }
 
@@ -109,6 +111,17 @@ fn put_value(text: &mut Bytes, p: &Problem, x: &Assortment) -> Result<(), NoMemo
     }
 }
 
+/// The two bounds of a chain's assortment.
+fn put_bounds(text: &mut Bytes, lo: u64, up: u64) -> Result<(), NoMemory>
+    ensures { OnOk result (text.new.items ≡ text.old.items ++ bound_lines lo up) }
+{
+    put(text, b"lower ")?;
+    put_number(text, u128::from(lo))?;
+    put(text, b"\nupper ")?;
+    put_number(text, u128::from(up))?;
+    put(text, b"\n")
+}
+
 fn put_offer(text: &mut Bytes, name: &str) -> Result<(), NoMemory>
     ensures { OnOk result (text.new.items ≡ text.old.items ++ offer_line name.now) }
 {
@@ -149,9 +162,22 @@ pub fn report_problem(
     ensures { IfOk result (λ text. text.items ≡ problem_report c.now p.now x.now) }
 {
     let mut text = Bytes::new(alloc);
-    put_head(&mut text, p)?;
+    put_head(&mut text, p.model(), p.products().len())?;
     put_offers(&mut text, c, x)?;
     put_set(&mut text, x)?;
     put_value(&mut text, p, x)?;
+    Ok(text)
+}
+
+/// The report of a chain: the products that its answer offers, and the two bounds.
+pub fn report_chain(alloc: Global, c: &Catalogue, answer: &ChainAnswer) -> Result<Bytes, NoMemory>
+    requires length { length answer.now.set ≡ length c.now }
+    ensures { IfOk result (λ text. text.items ≡ chain_report c.now answer.now) }
+{
+    let mut text = Bytes::new(alloc);
+    put_head(&mut text, ModelName::Chain, c.len())?;
+    put_offers(&mut text, c, &answer.set)?;
+    put_set(&mut text, &answer.set)?;
+    put_bounds(&mut text, answer.lo, answer.up)?;
     Ok(text)
 }

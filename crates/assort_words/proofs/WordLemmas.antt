@@ -1,20 +1,20 @@
 -- The word that is given for each key, and what a request without a missing key has.
-use Rattle.std.proofs.Common.{◌≡◌, refl, sym, subst, ℕ, zero, suc, ◌<◌, length, arith, List, [], ◌∷◌, slice_index_or, slice_set, Option, Some, None, is_some, unwrap_or, Bool, true, false, not, ◌&&◌, IsTrue, IsSome, IfSome, Bor, if◌then◌else◌}
+use Rattle.std.proofs.Common.{◌≡◌, ◌≢◌, refl, sym, subst, ℕ, zero, suc, ◌<◌, length, arith, List, [], ◌∷◌, slice_index_or, slice_set, Option, Some, None, is_some, unwrap_or, Bool, true, false, not, ◌&&◌, IsTrue, IsSome, IfSome, Bor, if◌then◌else◌}
 use Rattle.std.specs.Prelude.{map}
 use Rattle.std.specs.Option.{option_copied, option_and_then}
 use Rattle.std.specs.List.{find}
 use Rattle.std.proofs.Math.ListN.{get_or-map}
 use Rattle.std.proofs.lemmas.List.{map-set}
-use Rattle.offer_model.specs.declared.ranges.TheConstants.{MOST_AMOUNT}
+use Rattle.offer_model.specs.declared.ranges.TheConstants.{MOST_AMOUNT, MOST_SCALE}
 use Rattle.offer_model.specs.declared.products.ModelName.{ModelName}
 use Rattle.offer_model.specs.declared.products.ModelName.TheVariants.{Logit}
 use Rattle.assort_words.specs.declared.usage.Command.{Command}
 use Rattle.assort_words.specs.declared.usage.Key.{Key}
-use Rattle.assort_words.specs.declared.usage.Key.TheVariants.{Model, Products, Limits, Segments, NoneWeight, Unit, Proof, Workers, NoKey}
+use Rattle.assort_words.specs.declared.usage.Key.TheVariants.{Model, Products, Limits, Segments, Arcs, NoneWeight, Away, Unit, Scale, Proof, Workers, NoKey}
 use Rattle.assort_words.specs.declared.keys.Group.{Group}
 use Rattle.assort_words.specs.declared.keys.Group.TheVariants as G
-use Rattle.assort_words.specs.Keys.{keys, index_of, domain_of, use_of, is_in_domain, is_among, is_needed, model_of, number_within}
-use Rattle.assort_words.specs.Asked.{RequestData, word_of, with_word, is_given, is_missing, asked_model, IsInDomains, IsComplete}
+use Rattle.assort_words.specs.Keys.{keys, index_of, domain_of, use_of, is_in_domain, is_among, is_needed, is_used, model_of, number_within}
+use Rattle.assort_words.specs.Asked.{RequestData, word_of, with_word, is_given, is_missing, is_unused, asked_model, IsInDomains, IsComplete}
 
 -- the word that is read
 pub word_read : (r : RequestData) (c : Command) (ws : List (Option (Bor (List ℕ)))) (i : ℕ) (k : Key) → i ≡ index_of k
@@ -45,8 +45,11 @@ key_at_index Model = refl
 key_at_index Products = refl
 key_at_index Limits = refl
 key_at_index Segments = refl
+key_at_index Arcs = refl
 key_at_index NoneWeight = refl
+key_at_index Away = refl
 key_at_index Unit = refl
+key_at_index Scale = refl
 key_at_index Proof = refl
 key_at_index Workers = refl
 key_at_index NoKey = refl
@@ -94,21 +97,45 @@ asked_given o g given some among e = by_model (option_and_then model_of o) some 
     by_model None some among e = absurd (cc)
     by_model (Some m) some among e = subst (λ (b : Bool). (b && not given) ≡ false) among e
 
--- a request in its domains without a missing key
-pub has_all : (r : RequestData) → IsInDomains r → find (is_missing r) keys ≡ None → IsComplete r
-has_all r each e =
-    let there : (n : ℕ) → n < length keys → is_missing r (slice_index_or keys n NoKey) ≡ false = λ n. none_found (is_missing r) keys n e in
-    let model : is_missing r Model ≡ false = there 0 (omega arith) in
-    let products : is_missing r Products ≡ false = there 1 (omega arith) in
-    let segments : is_missing r Segments ≡ false = there 3 (omega arith) in
-    let none : is_missing r NoneWeight ≡ false = there 4 (omega arith) in
-    let proof : is_missing r Proof ≡ false = there 6 (omega arith) in
-    let some : IsSome (asked_model r) = read_some (word_of r Model) model_of model (each Model) in
+-- each key stands in the list of keys
+key_listed : (k : Key) → k ≢ NoKey → index_of k < length keys
+key_listed Model some = omega arith
+key_listed Products some = omega arith
+key_listed Limits some = omega arith
+key_listed Segments some = omega arith
+key_listed Arcs some = omega arith
+key_listed NoneWeight some = omega arith
+key_listed Away some = omega arith
+key_listed Unit some = omega arith
+key_listed Scale some = omega arith
+key_listed Proof some = omega arith
+key_listed Workers some = omega arith
+key_listed NoKey some = absurd (some refl)
+
+-- where no key is found, no key would do
+no_key : (p : Key → Bool) (k : Key) → k ≢ NoKey → find p keys ≡ None → p k ≡ false
+unfolding key_at
+no_key p k some e = subst (λ (j : Key). p j ≡ false) (key_at_index k) (none_found p keys (index_of k) e (key_listed k some))
+
+-- a key that is given and not unused is used
+given_used : (o : Option (List ℕ)) (used : Bool) → (is_some o && not used) ≡ false → IsSome o → IsTrue used
+given_used None used e some = absurd (cc)
+given_used (Some w) true e some = refl
+given_used (Some w) false e some = absurd (cc)
+
+-- a request in its domains without a missing key and without one that isn't used
+pub has_all : (r : RequestData) → IsInDomains r → find (is_missing r) keys ≡ None → find (is_unused r) keys ≡ None → IsComplete r
+has_all r each e f =
+    let there : (k : Key) → k ≢ NoKey → is_missing r k ≡ false = λ k some. no_key (is_missing r) k some e in
+    let some : IsSome (asked_model r) = read_some (word_of r Model) model_of (there Model (λ eq. cc)) (each Model) in
     record {
       model = some;
-      products = given_some (word_of r Products) products;
-      segments = λ mixed. given_some (word_of r Segments) (asked_given (word_of r Model) G.Mixed (is_given r Segments) some mixed segments);
-      none = λ ratio. read_some (word_of r NoneWeight) (number_within 1 MOST_AMOUNT) (asked_given (word_of r Model) G.Ratio (is_given r NoneWeight) some ratio none) (each NoneWeight);
+      products = given_some (word_of r Products) (there Products (λ eq. cc));
+      segments = λ mixed. given_some (word_of r Segments) (asked_given (word_of r Model) G.Mixed (is_given r Segments) some mixed (there Segments (λ eq. cc)));
+      arcs = λ chain. given_some (word_of r Arcs) (asked_given (word_of r Model) G.Chain (is_given r Arcs) some chain (there Arcs (λ eq. cc)));
+      none = λ ratio. read_some (word_of r NoneWeight) (number_within 1 MOST_AMOUNT) (asked_given (word_of r Model) G.Ratio (is_given r NoneWeight) some ratio (there NoneWeight (λ eq. cc))) (each NoneWeight);
+      scale = λ chain. read_some (word_of r Scale) (number_within 1 MOST_SCALE) (asked_given (word_of r Model) G.Chain (is_given r Scale) some chain (there Scale (λ eq. cc))) (each Scale);
       proof = λ check. given_some (word_of r Proof)
-          (subst (λ (c : Command). (is_needed (use_of Proof c) (unwrap_or (asked_model r) Logit) && not (is_given r Proof)) ≡ false) check proof);
+          (subst (λ (c : Command). (is_needed (use_of Proof c) (unwrap_or (asked_model r) Logit) && not (is_given r Proof)) ≡ false) check (there Proof (λ eq. cc)));
+      used = λ k known given. given_used (word_of r k) (is_used (use_of k r.command) (unwrap_or (asked_model r) Logit)) (no_key (is_unused r) k known f) given;
     }

@@ -1,16 +1,16 @@
 -- What the words of a command line ask for, or the first thing in them that is refused. Own.
-use Rattle.std.specs.Prelude.{◌≡◌, ℕ, ◌+◌, List, [], ◌∷◌, Option, Some, None, is_some, unwrap_or, slice_index_or, slice_set, replicate, Result, Ok, Err, IsSome, IfSome, IsTrue, Bool, false, not, codes, if◌then◌else◌, ◌&&◌, ◌||◌}
+use Rattle.std.specs.Prelude.{◌≡◌, ◌≢◌, ℕ, ◌+◌, List, [], ◌∷◌, Option, Some, None, is_some, unwrap_or, slice_index_or, slice_set, replicate, Result, Ok, Err, IsSome, IfSome, IsTrue, Bool, false, not, codes, if◌then◌else◌, ◌&&◌, ◌||◌}
 use Rattle.std.specs.Option.{option_and_then}
 use Rattle.std.specs.List.{find}
 use Rattle.std.specs.Str.{bytes_eq}
 use Rattle.offer_model.specs.declared.products.ModelName.{ModelName}
 use Rattle.offer_model.specs.declared.products.ModelName.TheVariants.{Logit}
-use Rattle.offer_model.specs.declared.ranges.TheConstants.{MOST_AMOUNT}
+use Rattle.offer_model.specs.declared.ranges.TheConstants.{MOST_AMOUNT, MOST_SCALE}
 use Rattle.assort_words.specs.declared.keys.TheConstants.{KEY_SLOTS}
 use Rattle.assort_words.specs.declared.usage.Command.{Command}
 use Rattle.assort_words.specs.declared.usage.Command.TheVariants.{Solve, Check}
 use Rattle.assort_words.specs.declared.usage.Key.{Key}
-use Rattle.assort_words.specs.declared.usage.Key.TheVariants.{Model, Products, Limits, Segments, NoneWeight, Unit, Proof, Workers, NoKey}
+use Rattle.assort_words.specs.declared.usage.Key.TheVariants.{Model, Products, Limits, Segments, Arcs, NoneWeight, Away, Unit, Scale, Proof, Workers, NoKey}
 use Rattle.assort_words.specs.declared.usage.UsageFault.{UsageFault}
 use Rattle.assort_words.specs.declared.usage.UsageCode.{UsageCode}
 use Rattle.assort_words.specs.declared.usage.UsageCode.TheVariants.{NoCommand, UnknownCommand, UnknownOption, RepeatedOption, MissingValue, Nested, BadValue, MissingOption, UnusedOption, ProofIsInput}
@@ -57,11 +57,20 @@ asked_limits r = word_of r Limits
 abbrev pub asked_segments : RequestData → Option (List ℕ)
 asked_segments r = word_of r Segments
 
+abbrev pub asked_arcs : RequestData → Option (List ℕ)
+asked_arcs r = word_of r Arcs
+
 abbrev pub asked_none : RequestData → Option ℕ
 asked_none r = option_and_then (number_within 1 MOST_AMOUNT) (word_of r NoneWeight)
 
+abbrev pub asked_away : RequestData → Option ℕ
+asked_away r = option_and_then (number_within 0 MOST_AMOUNT) (word_of r Away)
+
 abbrev pub asked_unit : RequestData → Option ℕ
 asked_unit r = option_and_then (number_within 1 MOST_AMOUNT) (word_of r Unit)
+
+abbrev pub asked_scale : RequestData → Option ℕ
+asked_scale r = option_and_then (number_within 1 MOST_SCALE) (word_of r Scale)
 
 abbrev pub asked_proof : RequestData → Option (List ℕ)
 asked_proof r = word_of r Proof
@@ -73,13 +82,16 @@ asked_workers r = option_and_then (number_within 1 64) (word_of r Workers)
 abbrev pub IsAskedOf : Group → RequestData → Type 0
 IsAskedOf g r = IfSome (asked_model r) (λ m. IsTrue (is_among g m))
 
--- All that the command and the model need is given.
+-- All that the command and the model need is given, and nothing that they don't use.
 pub record IsComplete (r : RequestData) : Type 0 where
   pub model : IsSome (asked_model r)
   pub products : IsSome (asked_products r)
   pub segments : IsAskedOf G.Mixed r → IsSome (asked_segments r)
+  pub arcs : IsAskedOf G.Chain r → IsSome (asked_arcs r)
   pub none : IsAskedOf G.Ratio r → IsSome (asked_none r)
+  pub scale : IsAskedOf G.Chain r → IsSome (asked_scale r)
   pub proof : r.command ≡ Check → IsSome (asked_proof r)
+  pub used : (k : Key) → k ≢ NoKey → IsSome (word_of r k) → IsTrue (is_used (use_of k r.command) (unwrap_or (asked_model r) Logit))
 
 -- ---- Words, in pairs of a key and its word.
 
@@ -155,7 +167,7 @@ proof_is_input r = named (asked_proof r)
   where
     named : Option (List ℕ) → Bool
     named None = false
-    named (Some name) = is_named name (asked_products r) || is_named name (asked_limits r) || is_named name (asked_segments r)
+    named (Some name) = is_named name (asked_products r) || is_named name (asked_limits r) || is_named name (asked_segments r) || is_named name (asked_arcs r)
 
 -- A request that has all that its command and model need and nothing else, and whose proof is none of its inputs.
 abbrev pub completed : RequestData → Result RequestData UsageFault

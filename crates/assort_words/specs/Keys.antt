@@ -4,12 +4,12 @@ use Rattle.std.specs.Option.{option_and_then}
 use Rattle.std.specs.Str.{bytes_eq}
 use Rattle.offer_model.specs.declared.products.ModelName.{ModelName}
 use Rattle.offer_model.specs.declared.products.ModelName.TheVariants.{Logit, Attract, Mixed, Chain}
-use Rattle.offer_model.specs.declared.ranges.TheConstants.{MOST_AMOUNT}
+use Rattle.offer_model.specs.declared.ranges.TheConstants.{MOST_AMOUNT, MOST_SCALE}
 use Rattle.offer_model.specs.Numerals.{number_of}
 use Rattle.assort_words.specs.declared.usage.Command.{Command}
 use Rattle.assort_words.specs.declared.usage.Command.TheVariants.{Solve, Check}
 use Rattle.assort_words.specs.declared.usage.Key.{Key}
-use Rattle.assort_words.specs.declared.usage.Key.TheVariants.{Model, Products, Limits, Segments, NoneWeight, Unit, Proof, Workers, NoKey}
+use Rattle.assort_words.specs.declared.usage.Key.TheVariants.{Model, Products, Limits, Segments, Arcs, NoneWeight, Away, Unit, Scale, Proof, Workers, NoKey}
 use Rattle.assort_words.specs.declared.keys.Domain.{Domain}
 use Rattle.assort_words.specs.declared.keys.Domain.TheVariants.{Models, Files, Numbers}
 use Rattle.assort_words.specs.declared.keys.Group.{Group}
@@ -19,7 +19,7 @@ use Rattle.assort_words.specs.declared.keys.Use.TheVariants.{Never, May, Must, M
 
 -- The keys, in the order in which they are looked at.
 abbrev pub keys : List Key
-keys = Model ∷ Products ∷ Limits ∷ Segments ∷ NoneWeight ∷ Unit ∷ Proof ∷ Workers ∷ []
+keys = Model ∷ Products ∷ Limits ∷ Segments ∷ Arcs ∷ NoneWeight ∷ Away ∷ Unit ∷ Scale ∷ Proof ∷ Workers ∷ []
 
 -- A key's index in this list; that no key is given stands past the last.
 abbrev pub index_of : Key → ℕ
@@ -27,49 +27,51 @@ index_of Model = 0
 index_of Products = 1
 index_of Limits = 2
 index_of Segments = 3
-index_of NoneWeight = 4
-index_of Unit = 5
-index_of Proof = 6
-index_of Workers = 7
-index_of NoKey = 8
+index_of Arcs = 4
+index_of NoneWeight = 5
+index_of Away = 6
+index_of Unit = 7
+index_of Scale = 8
+index_of Proof = 9
+index_of Workers = 10
+index_of NoKey = 11
 
--- A key as it is written.
+-- A line of the table: the key as it is written, the values that it may have, and what a command makes of it.
+pub record KeyRow : Type 0 where
+  pub text : List ℕ
+  pub domain : Domain
+  pub use_by : Command → Use
+
+abbrev pub by_all : Use → Command → Use
+by_all u command = u
+
+abbrev pub by_each : Use → Use → Command → Use
+by_each solve check Solve = solve
+by_each solve check Check = check
+
+-- The table.
+abbrev pub row_of : Key → KeyRow
+row_of Model = record { text = codes "--model"; domain = Models; use_by = by_all Must }
+row_of Products = record { text = codes "--products"; domain = Files; use_by = by_all Must }
+row_of Limits = record { text = codes "--limits"; domain = Files; use_by = by_all (MayWith G.Limited) }
+row_of Segments = record { text = codes "--segments"; domain = Files; use_by = by_all (MustWith G.Mixed) }
+row_of Arcs = record { text = codes "--arcs"; domain = Files; use_by = by_all (MustWith G.Chain) }
+row_of NoneWeight = record { text = codes "--none"; domain = Numbers 1 MOST_AMOUNT; use_by = by_all (MustWith G.Ratio) }
+row_of Away = record { text = codes "--away"; domain = Numbers 0 MOST_AMOUNT; use_by = by_all (MayWith G.Chain) }
+row_of Unit = record { text = codes "--unit"; domain = Numbers 1 MOST_AMOUNT; use_by = by_all (MayWith G.Mixed) }
+row_of Scale = record { text = codes "--scale"; domain = Numbers 1 MOST_SCALE; use_by = by_all (MustWith G.Chain) }
+row_of Proof = record { text = codes "--proof"; domain = Files; use_by = by_each May Must }
+row_of Workers = record { text = codes "--workers"; domain = Numbers 1 64; use_by = by_each (MayWith G.Mixed) Never }
+row_of NoKey = record { text = []; domain = Files; use_by = by_all Never }
+
 abbrev pub text_of : Key → List ℕ
-text_of Model = codes "--model"
-text_of Products = codes "--products"
-text_of Limits = codes "--limits"
-text_of Segments = codes "--segments"
-text_of NoneWeight = codes "--none"
-text_of Unit = codes "--unit"
-text_of Proof = codes "--proof"
-text_of Workers = codes "--workers"
-text_of NoKey = []
+text_of k = (row_of k).text
 
--- The values that a key may have.
 abbrev pub domain_of : Key → Domain
-domain_of Model = Models
-domain_of Products = Files
-domain_of Limits = Files
-domain_of Segments = Files
-domain_of NoneWeight = Numbers 1 MOST_AMOUNT
-domain_of Unit = Numbers 1 MOST_AMOUNT
-domain_of Proof = Files
-domain_of Workers = Numbers 1 64
-domain_of NoKey = Files
+domain_of k = (row_of k).domain
 
--- What a command makes of a key.
 abbrev pub use_of : Key → Command → Use
-use_of Model c = Must
-use_of Products c = Must
-use_of Limits c = May
-use_of Segments c = MustWith G.Mixed
-use_of NoneWeight c = MustWith G.Ratio
-use_of Unit c = MayWith G.Mixed
-use_of Proof Solve = May
-use_of Proof Check = Must
-use_of Workers Solve = MayWith G.Mixed
-use_of Workers Check = Never
-use_of NoKey c = Never
+use_of k c = (row_of k).use_by c
 
 -- ---- What the words of the table mean.
 
@@ -78,7 +80,8 @@ model_of word =
     if bytes_eq word (codes "logit") then Some Logit
     else (if bytes_eq word (codes "attract") then Some Attract
     else (if bytes_eq word (codes "mixed") then Some Mixed
-    else None))
+    else (if bytes_eq word (codes "chain") then Some Chain
+    else None)))
 
 abbrev pub within : ℕ → ℕ → ℕ → Option ℕ
 within low high n = if nat_le low n && nat_le n high then Some n else None
@@ -102,6 +105,14 @@ is_among G.Mixed Logit = false
 is_among G.Mixed Attract = false
 is_among G.Mixed Mixed = true
 is_among G.Mixed Chain = false
+is_among G.Chain Logit = false
+is_among G.Chain Attract = false
+is_among G.Chain Mixed = false
+is_among G.Chain Chain = true
+is_among G.Limited Logit = true
+is_among G.Limited Attract = true
+is_among G.Limited Mixed = true
+is_among G.Limited Chain = false
 
 -- Whether a command has such a key at all.
 abbrev pub is_known : Use → Bool

@@ -1,28 +1,32 @@
 //! The table of keys: for each its text, its domain, and its use by command and model.
 ghost use Rattle.std.specs.Prelude.{◌≡◌, ◌≤◌, length, IsTrue, IsSome};
+ghost use Rattle.assort_words.specs.declared.usage.Command.TheVariants.{Solve, Check};
 ghost use Rattle.assort_words.specs.Keys.{index_of, text_of, domain_of, use_of, is_in_domain, is_among, is_known, is_needed, is_used};
 
 use crate::usage::{Command, Key};
 use crate::values::{read_model, read_within};
-use offer_model::{MOST_AMOUNT, ModelName};
+use offer_model::{MOST_AMOUNT, MOST_SCALE, ModelName};
 
 /// The keys, in the order in which they are looked at.
-pub(crate) const KEYS: [Key; 8] = [
+pub(crate) const KEYS: [Key; 11] = [
     Key::Model,
     Key::Products,
     Key::Limits,
     Key::Segments,
+    Key::Arcs,
     Key::NoneWeight,
+    Key::Away,
     Key::Unit,
+    Key::Scale,
     Key::Proof,
     Key::Workers,
 ];
 
-/// The most threads that search; more bring nothing where there are at most 256 tasks.
+/// The greatest number that `--workers` takes, as the formats say.
 pub const MOST_WORKERS: u64 = 64;
 
 /// A slot for each `Key`, with `NoKey`, whose slot stays empty.
-pub const KEY_SLOTS: usize = 9;
+pub const KEY_SLOTS: usize = 12;
 
 /// The values that a key may have.
 #[derive(Clone, Copy)]
@@ -42,6 +46,10 @@ pub enum Group {
     Ratio,
     /// Mixed logit, whose customers differ by segment.
     Mixed,
+    /// Markov chain choice.
+    Chain,
+    /// All whose assortments may have limits: all but Markov chain choice.
+    Limited,
 }
 
 /// What a command makes of a key.
@@ -56,23 +64,62 @@ pub enum Use {
     MustWith(Group),
 }
 
+/// A line of the table: the key as it is written, its values, and what each command makes of it.
+#[derive(Clone, Copy)]
+struct KeyRow {
+    text: &'static str,
+    domain: Domain,
+    solve: Use,
+    check: Use,
+}
+
 impl Key {
+    /// The key's line.
+    fn row(self) -> KeyRow
+        ensures text { result.text.now ≡ text_of self }
+        ensures short { length result.text.now ≤ 10 }
+        ensures domain { result.domain ≡ domain_of self }
+        ensures solve { result.solve ≡ use_of self Solve }
+        ensures check { result.check ≡ use_of self Check }
+    {
+        let amount = Domain::Numbers(1, MOST_AMOUNT);
+        let threads = Domain::Numbers(1, MOST_WORKERS);
+        let away = Domain::Numbers(0, MOST_AMOUNT);
+        let parts = Domain::Numbers(1, MOST_SCALE);
+        let for_ratio = Use::MustWith(Group::Ratio);
+        let for_mixed = Use::MustWith(Group::Mixed);
+        let with_mixed = Use::MayWith(Group::Mixed);
+        let for_chain = Use::MustWith(Group::Chain);
+        let with_chain = Use::MayWith(Group::Chain);
+        let with_limits = Use::MayWith(Group::Limited);
+        let (text, domain, solve, check) = match self {
+            Key::Model => ("--model", Domain::Models, Use::Must, Use::Must),
+            Key::Products => ("--products", Domain::Files, Use::Must, Use::Must),
+            Key::Limits => ("--limits", Domain::Files, with_limits, with_limits),
+            Key::Segments => ("--segments", Domain::Files, for_mixed, for_mixed),
+            Key::Arcs => ("--arcs", Domain::Files, for_chain, for_chain),
+            Key::NoneWeight => ("--none", amount, for_ratio, for_ratio),
+            Key::Away => ("--away", away, with_chain, with_chain),
+            Key::Unit => ("--unit", amount, with_mixed, with_mixed),
+            Key::Scale => ("--scale", parts, for_chain, for_chain),
+            Key::Proof => ("--proof", Domain::Files, Use::May, Use::Must),
+            Key::Workers => ("--workers", threads, with_mixed, Use::Never),
+            Key::NoKey => ("", Domain::Files, Use::Never, Use::Never),
+        };
+        KeyRow {
+            text,
+            domain,
+            solve,
+            check,
+        }
+    }
+
     /// The key as it is written.
     pub fn text(self) -> &'static str
         ensures text { result.now ≡ text_of self }
         ensures short { length result.now ≤ 10 }
     {
-        match self {
-            Key::Model => "--model",
-            Key::Products => "--products",
-            Key::Limits => "--limits",
-            Key::Segments => "--segments",
-            Key::NoneWeight => "--none",
-            Key::Unit => "--unit",
-            Key::Proof => "--proof",
-            Key::Workers => "--workers",
-            Key::NoKey => "",
-        }
+        self.row().text
     }
 
     pub(crate) fn index(self) -> usize
@@ -84,29 +131,15 @@ impl Key {
     pub(crate) fn domain(self) -> Domain
         ensures { result ≡ domain_of self }
     {
-        match self {
-            Key::Model => Domain::Models,
-            Key::NoneWeight | Key::Unit => Domain::Numbers(1, MOST_AMOUNT),
-            Key::Workers => Domain::Numbers(1, MOST_WORKERS),
-            Key::Products | Key::Limits | Key::Segments | Key::Proof | Key::NoKey => Domain::Files,
-        }
+        self.row().domain
     }
 
     pub(crate) fn use_by(self, command: Command) -> Use
         ensures { result ≡ use_of self command }
     {
-        match (self, command) {
-            (Key::Model, _) => Use::Must,
-            (Key::Products, _) => Use::Must,
-            (Key::Limits, _) => Use::May,
-            (Key::Segments, _) => Use::MustWith(Group::Mixed),
-            (Key::NoneWeight, _) => Use::MustWith(Group::Ratio),
-            (Key::Unit, _) => Use::MayWith(Group::Mixed),
-            (Key::Proof, Command::Solve) => Use::May,
-            (Key::Proof, Command::Check) => Use::Must,
-            (Key::Workers, Command::Solve) => Use::MayWith(Group::Mixed),
-            (Key::Workers, Command::Check) => Use::Never,
-            (Key::NoKey, _) => Use::Never,
+        match command {
+            Command::Solve => self.row().solve,
+            Command::Check => self.row().check,
         }
     }
 }
@@ -130,6 +163,8 @@ impl Group {
         match self {
             Group::Ratio => matches!(model, ModelName::Logit | ModelName::Attract),
             Group::Mixed => model == ModelName::Mixed,
+            Group::Chain => model == ModelName::Chain,
+            Group::Limited => model != ModelName::Chain,
         }
     }
 }

@@ -1,15 +1,14 @@
 //! What is asked for: a command, and the word that is given for each key.
-ghost use Rattle.std.specs.Prelude.{◌≡◌, ◌≢◌, ◌≤◌, IfSome, IsTrue};
+ghost use Rattle.std.specs.Prelude.{◌≡◌, ◌≤◌, IfSome, IsTrue};
 ghost use Rattle.std.specs.Option.{option_copied};
 ghost use Rattle.offer_model.specs.Validity.{IsPositiveAmount};
-ghost use Rattle.offer_model.specs.declared.products.ModelName.TheVariants as name;
 ghost use Rattle.assort_words.specs.Keys.{domain_of, is_in_domain};
-ghost use Rattle.assort_words.specs.Asked.{IsInDomains, bare_request, word_of, with_word, is_given, asked_model, asked_products, asked_limits, asked_segments, asked_none, asked_unit, asked_proof, asked_workers};
+ghost use Rattle.assort_words.specs.Asked.{IsInDomains, bare_request, word_of, with_word, is_given, asked_model, asked_products, asked_limits, asked_segments, asked_arcs, asked_none, asked_away, asked_unit, asked_scale, asked_proof, asked_workers};
 
 use crate::keys::{KEY_SLOTS, MOST_WORKERS};
 use crate::usage::{Command, Key};
 use crate::values::{read_model, read_within};
-use offer_model::{MOST_AMOUNT, ModelName};
+use offer_model::{MOST_AMOUNT, MOST_SCALE, ModelName};
 use std::marker::Model;
 
 /// What is asked for. It borrows its texts from the words.
@@ -71,10 +70,9 @@ impl<'a> Request<'a> {
         self.command
     }
 
-    /// `None` exactly where the key isn't given; so do the next seven.
+    /// `None` exactly where the key isn't given; so do the next ten.
     pub fn model(&self) -> Option<ModelName>
         ensures value { result ≡ asked_model self.now }
-        ensures problem { IfSome result (λ m. m ≢ name.Chain) }
         ensures valid { IsInDomains self.now }
     {
         read_model(self.word(Key::Model)?)
@@ -98,6 +96,12 @@ impl<'a> Request<'a> {
         self.word(Key::Segments)
     }
 
+    pub fn arcs(&self) -> Option<&'a str>
+        ensures { option_copied result ≡ asked_arcs self.now }
+    {
+        self.word(Key::Arcs)
+    }
+
     pub fn none(&self) -> Option<u64>
         ensures value { result ≡ asked_none self.now }
         ensures valid { IfSome result IsPositiveAmount }
@@ -105,11 +109,25 @@ impl<'a> Request<'a> {
         read_within(self.word(Key::NoneWeight)?, 1, MOST_AMOUNT)
     }
 
+    pub fn away(&self) -> Option<u64>
+        ensures value { result ≡ asked_away self.now }
+        ensures valid { IfSome result (λ n. n ≤ 1000000000) }
+    {
+        read_within(self.word(Key::Away)?, 0, MOST_AMOUNT)
+    }
+
     pub fn unit(&self) -> Option<u64>
         ensures value { result ≡ asked_unit self.now }
         ensures valid { IfSome result IsPositiveAmount }
     {
         read_within(self.word(Key::Unit)?, 1, MOST_AMOUNT)
+    }
+
+    pub fn scale(&self) -> Option<u64>
+        ensures value { result ≡ asked_scale self.now }
+        ensures range { IfSome result (λ n. (1 ≤ n) × (n ≤ 10000)) }
+    {
+        read_within(self.word(Key::Scale)?, 1, MOST_SCALE)
     }
 
     pub fn proof(&self) -> Option<&'a str>

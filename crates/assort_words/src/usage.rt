@@ -13,10 +13,15 @@ pub enum Key {
     Products,
     Limits,
     Segments,
+    Arcs,
     /// `--none`, the weight of buying nothing.
     NoneWeight,
+    /// `--away`, the weight of the customers of a chain who arrive at no product.
+    Away,
     /// `--unit`, the step to which a segment's revenue is rounded down.
     Unit,
+    /// `--scale`, the parts in which a chain counts the customers at a product.
+    Scale,
     Proof,
     /// `--workers`, the number of threads that search.
     Workers,

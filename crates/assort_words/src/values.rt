@@ -1,13 +1,11 @@
 //! The values of keys, read from their words.
-ghost use Rattle.std.specs.Prelude.{◌≡◌, ◌≢◌, ◌≤◌, IfSome};
-ghost use Rattle.offer_model.specs.declared.products.ModelName.TheVariants as name;
+ghost use Rattle.std.specs.Prelude.{◌≡◌, ◌≤◌, IfSome};
 ghost use Rattle.assort_words.specs.Keys.{model_of, number_within};
 
 use offer_model::{ModelName, read_number};
 
 pub(crate) fn read_model(word: &str) -> Option<ModelName>
-    ensures value { result ≡ model_of word.now }
-    ensures problem { IfSome result (λ m. m ≢ name.Chain) }
+    ensures { result ≡ model_of word.now }
 {
     if word == "logit" {
         return Some(ModelName::Logit);
@@ -17,6 +15,9 @@ pub(crate) fn read_model(word: &str) -> Option<ModelName>
     }
     if word == "mixed" {
         return Some(ModelName::Mixed);
+    }
+    if word == "chain" {
+        return Some(ModelName::Chain);
     }
     None
 }

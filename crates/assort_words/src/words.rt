@@ -142,6 +142,7 @@ fn proof_is_input(request: &Request<'_>) -> bool
     is_named(proof, request.products())
         || is_named(proof, request.limits())
         || is_named(proof, request.segments())
+        || is_named(proof, request.arcs())
 }
 
 /// A request that has all that its command and model need, and nothing else.

@@ -10,33 +10,17 @@ ghost use Rattle.assort_core.specs.Outcomes.{IsAnswerTo};
 ghost use Rattle.assort_core.specs.Stops.{WhyStopped};
 
 use crate::answer::Answer;
-use crate::inputs::{load_input, read_inputs};
+use crate::inputs::{load_input, read_subject};
 use crate::means::Means;
 use crate::stop::Stop;
 use crate::task::Task;
 use catalogue::FileName;
 use offer_io::Store;
-use offer_model::{Bytes, NoMemory, Problem};
-use proof_check::{Checker, Verdict};
+use offer_model::{Bytes, NoMemory};
 use std::alloc::Global;
 
 /// The most bytes of a proof that is checked.
 pub const MOST_PROOF: usize = 268_435_456;
-
-fn is_yes(verdict: Verdict) -> bool
-    ensures { IsTrue result ↔ (verdict ≡ said.Yes) }
-{
-    matches!(verdict, Verdict::Yes)
-}
-
-/// Whether the text is accepted for the problem.
-fn is_accepted(alloc: Global, p: &Problem, text: &[u8]) -> Result<bool, NoMemory>
-    ensures { IfOk result (λ accepted. IsTrue accepted ↔ Accepts p.now text.now) }
-{
-    let mut checker = Checker::for_problem(alloc, p)?;
-    checker.feed(text);
-    Ok(is_yes(checker.finish()))
-}
 
 /// What `check` prints of a text that is accepted or not.
 fn verdict(alloc: Global, accepted: bool) -> Result<Answer, NoMemory>
@@ -71,9 +55,9 @@ pub(crate) fn check<R, S: Store, G>(
     ensures passes { Passes (S.view store.old) (S.view store.new) }
 {
     let alloc = means.alloc;
-    let inputs = match read_inputs(alloc, task, store) {
+    let subject = match read_subject(alloc, task, store) {
         Err(stop) => return Err(stop),
-        Ok(inputs) => inputs,
+        Ok(subject) => subject,
     };
     let text = match load_input(
         alloc,
@@ -85,6 +69,6 @@ pub(crate) fn check<R, S: Store, G>(
         Err(stop) => return Err(stop),
         Ok(text) => text,
     };
-    let accepted = is_accepted(alloc, &inputs.problem, text.as_slice())?;
+    let accepted = subject.is_accepted(alloc, text.as_slice())?;
     Ok(verdict(alloc, accepted)?)
 }

@@ -1,24 +1,23 @@
-//! The command `solve`: the best assortment, its report, and its certificate where one is asked for.
-ghost use Rattle.std.specs.Prelude.{◌≡◌, ◌≤◌, length, IfOk, IfErr, OnOk, OnErr, IsTrue};
-ghost use Rattle.offer_model.specs.Best.{IsBest};
-ghost use Rattle.offer_model.specs.Problems.{product_count};
+//! The command `solve`: what is found, its report, and its certificate where one is asked for.
+ghost use Rattle.std.specs.Prelude.{◌≡◌, ℕ, List, IfOk, IfErr, OnOk, IsTrue};
+ghost use Rattle.offer_io.specs.Stores.{Passes};
 ghost use Rattle.assort_words.specs.declared.usage.Command.TheVariants as command;
-ghost use Rattle.assort_reports.specs.Reports.{problem_report};
 ghost use Rattle.assort_core.specs.Deeds.{answer};
 ghost use Rattle.assort_core.specs.Outcomes.{IsAnswerTo};
-ghost use Rattle.assort_core.specs.Runs.{Endures, OthersStand, OutputStands, OutputMayStand, OutputIsSealed, FilesStand};
-ghost use Rattle.assort_core.specs.Stops.{WhyStopped, status_of};
+ghost use Rattle.assort_core.specs.Solutions.{subject_of};
+ghost use Rattle.assort_core.specs.SolveOutcomes.{IsSolution};
+ghost use Rattle.assort_core.specs.Stops.{WhyStopped, LeavesWhole, LeavesPart};
 
 use crate::answer::Answer;
-use crate::inputs::{Inputs, read_inputs};
+use crate::inputs::read_subject;
 use crate::means::Means;
-use crate::optimum::{Fit, Method};
 use crate::output_file::write_proof;
+use crate::solved::{Found, Solved};
 use crate::stop::Stop;
 use crate::task::Task;
-use assort_reports::report_problem;
 use offer_io::{Gate, Store};
-use offer_model::{Assortment, Bytes, NoMemory};
+use offer_model::Bytes;
+use std::alloc::Global;
 use std::thread::Threads;
 
 fn done(report: Bytes) -> Answer
@@ -28,34 +27,55 @@ fn done(report: Bytes) -> Answer
     Answer { status: 0, report }
 }
 
-/// The best assortment, its report, and the method that found it.
+/// What is found, and its report.
 #[derive(Drop)]
 struct Solution {
-    best: Assortment,
+    solved: Solved,
     report: Bytes,
-    method: Method,
 }
 
-fn solution_of<R: Threads + Sync, G: Gate + Sync>(
+/// Reads the files, and finds the answer.
+fn find_solution<R: Threads + Sync, S: Store, G: Gate + Sync>(
     means: &Means<'_, R, G>,
-    workers: u64,
-    inputs: &Inputs,
-) -> Result<Solution, NoMemory>
-    requires workers { (1 ≤ workers) × (workers ≤ 64) }
-    requires products { product_count inputs.now.problem ≡ length inputs.now.tables.rows }
-    ensures best { IfOk result (λ s. IsBest inputs.now.problem s.best) }
-    ensures report { IfOk result (λ s. s.report.items ≡ problem_report inputs.now.tables.rows inputs.now.problem s.best) }
-    ensures fits { IfOk result (λ s. ⟦<Method as Fit>⟧.fits s.method inputs.now.problem) }
+    task: &Task<'_>,
+    store: &mut S,
+) -> Result<Solution, Stop>
+    requires { task.now.command ≡ command.Solve }
+    ensures passes { Passes (S.view store.old) (S.view store.new) }
+    ensures solution { IfOk result (λ s. IsSolution task.now (S.view store.new) (subject_of s.solved) s.report.items) }
+    ensures holds { IfOk result (λ s. ⟦<Solved as Found>⟧.holds s.solved) }
+    ensures stopped { IfErr result (WhyStopped task.now (S.view store.old) (S.view store.new)) }
 {
-    let alloc = means.alloc;
-    let mut method = Method::prepare(alloc, &inputs.problem)?;
-    let best = method.best(means, workers, &inputs.problem)?;
-    let report = report_problem(alloc, &inputs.tables.catalogue, &inputs.problem, &best)?;
-    Ok(Solution {
-        best,
-        report,
-        method,
-    })
+    let subject = match read_subject(means.alloc, task, store) {
+        Err(stop) => return Err(stop),
+        Ok(subject) => subject,
+    };
+    let solved = Solved::of(means, task.workers(), subject)?;
+    let report = solved.report(means.alloc)?;
+    Ok(Solution { solved, report })
+}
+
+/// Writes the proof where one is asked for.
+fn certify<S: Store>(
+    alloc: Global,
+    task: &Task<'_>,
+    solved: &mut Solved,
+    store: &mut S,
+) -> Result<(), Stop>
+    requires command { task.now.command ≡ command.Solve }
+    requires solution { (report : List ℕ) × IsSolution task.now (S.view store.old) (subject_of solved.old) report }
+    requires holds { ⟦<Solved as Found>⟧.holds solved.old }
+    ensures whole { OnOk result (LeavesWhole task.now (S.view store.old) (S.view store.new)) }
+    ensures part { IfErr result (LeavesPart task.now (S.view store.old) (S.view store.new)) }
+    ensures stopped { IfErr result (WhyStopped task.now (S.view store.old) (S.view store.new)) }
+{
+    let Some(name) = task.proof() else {
+        return Ok(());
+    };
+    match write_proof(alloc, solved, store, name) {
+        Err(stop) => Err(stop),
+        Ok(()) => Ok(()),
+    }
 }
 
 /// What `solve` prints, after the proof that is asked for was written.
@@ -71,32 +91,15 @@ pub(crate) fn solve<R: Threads + Sync, S: Store, G: Gate + Sync>(
     ensures stopped { IfErr result (WhyStopped task.now (S.view store.old) (S.view store.new)) }
 
     // What stands of the files afterwards.
-    ensures others { OthersStand task.now (S.view store.old) (S.view store.new) }
-    ensures proof { OnOk result (OutputStands task.now (S.view store.old) (S.view store.new)) }
-    ensures sealed { OnOk result (OutputIsSealed task.now (S.view store.new)) }
-    ensures part { OnErr result (OutputMayStand task.now (S.view store.old) (S.view store.new)) }
-    ensures kept { IfErr result (λ stop. status_of stop ≡ 3 → FilesStand (S.view store.old) (S.view store.new)) }
-    ensures endures { Endures (S.view store.old) (S.view store.new) }
+    ensures whole { OnOk result (LeavesWhole task.now (S.view store.old) (S.view store.new)) }
+    ensures part { IfErr result (LeavesPart task.now (S.view store.old) (S.view store.new)) }
 {
-    let proof = task.proof();
-    let inputs = match read_inputs(means.alloc, task, store) {
+    let Solution { mut solved, report } = match find_solution(means, task, store) {
         Err(stop) => return Err(stop),
-        Ok(inputs) => inputs,
+        Ok(solution) => solution,
     };
-    let mut solution = solution_of(means, task.workers(), &inputs)?;
-    let Some(name) = proof else {
-        return Ok(done(solution.report));
-    };
-    let method = &mut solution.method;
-    match write_proof(
-        means.alloc,
-        &inputs.problem,
-        &solution.best,
-        method,
-        store,
-        name,
-    ) {
+    match certify(means.alloc, task, &mut solved, store) {
         Err(stop) => Err(stop),
-        Ok(()) => Ok(done(solution.report)),
+        Ok(()) => Ok(done(report)),
     }
 }

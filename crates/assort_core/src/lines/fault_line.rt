@@ -45,6 +45,9 @@ fn column_text(file: FileName, c: usize) -> &'static str
         (FileName::Segments, 1) => "product",
         (FileName::Segments, 2) => "size",
         (FileName::Segments, 3) => "attraction",
+        (FileName::Arcs, 0) => "from",
+        (FileName::Arcs, 1) => "to",
+        (FileName::Arcs, 2) => "parts",
         _ => "",
     }
 }

@@ -7,4 +7,4 @@ use Rattle.assort_core.proofs.inputs.problem_asked.Goals as goal
 pub problem_of-requires-clause-limits : goal.problem_of-requires-clause-limits
 problem_of-requires-clause-limits c =
     subst (λ (i : InputsData). HasLimits (problem_data_of i.rows c.model.result c.none.result c.unit.result i.segments i.limits)) (sym c.tables.view_is)
-    (c.requires.limits c.model.result c.none.result c.unit.result c.args.tables.now.segments)
+    (c.requires.fit.limits c.model.result c.none.result c.unit.result c.args.tables.now.segments)

@@ -7,7 +7,7 @@ use Rattle.assort_core.proofs.inputs.read_table.Goals as goal
 pub returns-in-Err-clause-stopped : goal.returns-in-Err-clause-stopped
 returns-in-Err-clause-stopped g c = λ k at before.
     stage_unloaded c.in-Err.stop k (table_stage c.args.task.now c.args.file) c.args.task.now (g.S.Store.view c.args.store.now) (g.S.Store.view c.load_input.new.store)
-    c.args.tables.now c.in-Some.name.now at (sym c.in-Some.ensures) before c.in-Err.ensures.stopped
+    c.in-Some.name.now at (sym c.in-Some.ensures) (λ told. (c.args.tables.now, before told)) c.in-Err.ensures.stopped
 
 pub returns-in_err-put-clause-stopped : goal.returns-in_err-put-clause-stopped
 returns-in_err-put-clause-stopped g c =

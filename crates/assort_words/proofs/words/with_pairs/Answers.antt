@@ -1,6 +1,9 @@
-use Rattle.std.proofs.Common.{◌∙◌, sym, arith}
+use Rattle.std.proofs.Common.{◌∙◌, refl, sym, arith}
 use Rattle.assort_words.proofs.PairLemmas.{at_bad_key, at_last_key, at_bad_value, at_pair}
 use Rattle.assort_words.proofs.words.with_pairs.Goals as goal
+
+pub pairs-init : goal.pairs-init
+pairs-init c = record { inside = omega (arith, c.requires); rest = rw c.bare-request.ensures refl }
 
 pub returns-in-Err : goal.returns-in-Err
 returns-in-Err c =

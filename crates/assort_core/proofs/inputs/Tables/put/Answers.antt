@@ -13,13 +13,13 @@ returns-in_err-self-inside-in-Products-clause-fault c =
 pub returns-in_ok-self-inside-in-Products-clause-given : goal.returns-in_ok-self-inside-in-Products-clause-given
 returns-in_ok-self-inside-in-Products-clause-given c =
     let rows = c.in_ok-self-inside-in-Products.field-0 in
-    let i : InputsData = record { rows = c.self.inside.catalogue; limits = c.self.inside.limits.items; segments = c.self.inside.segments; proof = [] } in
+    let i : InputsData = record { rows = c.self.inside.catalogue; limits = c.self.inside.limits.items; segments = c.self.inside.segments; arcs = []; proof = [] } in
     subst (λ (j : InputsData). table_outcome c.args.file c.args.task.now j c.args.bytes.now
-    ≡ Ok (record { rows = rows; limits = c.self.inside.limits.items; segments = c.self.inside.segments; proof = [] })) c.self.view_is
+    ≡ Ok (record { rows = rows; limits = c.self.inside.limits.items; segments = c.self.inside.segments; arcs = []; proof = [] })) c.self.view_is
     (products_put c.args.file c.args.task.now c.model.result i c.args.bytes.now rows c.in-Products.is c.model.ensures.value c.in_ok-self-inside-in-Products.ensures.rows)
 
 pub returns-in_ok-self-inside-in-Segments-clause-fit : goal.returns-in_ok-self-inside-in-Segments-clause-fit
 returns-in_ok-self-inside-in-Segments-clause-fit c =
-    let i : InputsData = record { rows = c.self.inside.catalogue; limits = c.self.inside.limits.items; segments = c.self.inside.segments; proof = [] } in
+    let i : InputsData = record { rows = c.self.inside.catalogue; limits = c.self.inside.limits.items; segments = c.self.inside.segments; arcs = []; proof = [] } in
     segments_fit c.args.task.now i c.unit.result c.in_ok-self-inside-in-Segments.field-0 c.unit.ensures.value
     (subst (FitTogether c.args.task.now) (sym c.self.view_is) c.requires.fit) c.in_ok-self-inside-in-Segments.ensures.fits
