@@ -5,10 +5,11 @@ The model: x_i is whether product i is offered, y0 the chance of buying nothing 
 bought with the chance (v_i / v_0) * z_i. A cap K on some products is the row sum z_i <= K * y0 over these in each segment."""
 import os
 import random
+import statistics
 import subprocess
 
 from calls import NODES, calls, count
-from limits import cell, solver
+from limits import solver
 from run import PROGRAM, best_time, in_folder, machine, options, report
 
 REPEATS = 3
@@ -185,17 +186,65 @@ def certificate(folder, own, most):
     return [text, '%.1f (%.1fx)' % (checked, checked / own), str(lines), str(size)]
 
 
-def row(case, folder, most):
+def timed(work):
+    """How long a peer took, in milliseconds, and whether it ended. None where it isn't installed."""
+    if work is None:
+        return None
+    took, found = best_time(work, 1)
+    return took, found is not False
+
+
+def told(peer, own):
+    """A peer's cell."""
+    if peer is None:
+        return 'not installed'
+    took, whole = peer
+    return '%s%.1f (%.0fx)' % ('' if whole else 'more than ', took, took / own)
+
+
+def empty_process():
+    """How long a process takes that does nothing, in milliseconds: what starting one costs."""
+    return best_time(lambda: subprocess.run(['true'], stdout=subprocess.PIPE, check=True))[0]
+
+
+def best_peer(peers, empty):
+    """The least time of the peers that ended, or where none did the time at which they were cut off, with what of it is the start of
+    a process; HiGHS runs without one."""
+    there = [(took, whole, start) for (took, whole), start in ((peer, start) for peer, start in zip(peers, (0, empty, empty)) if peer)]
+    return min(there, key=lambda peer: (not peer[1], peer[0])) if there else None
+
+
+def row(case, folder, most, empty):
+    """The row of one input, and for the medians its time, its nodes and the best peer. Without an end in time there is no such figure."""
     case.write(folder)
     first = ended(lambda: program(folder, 'solve', None, most))
     if first is None:
-        return '| %s | more than %d s |  |  |  |  |  |  |  |  |' % (case.name, most)
+        return '| %s | more than %d s |  |  |  |  |  |  |  |  |' % (case.name, most), None
     own = first if first > 1000 else best_time(lambda: program(folder, 'solve'), REPEATS)[0]
-    cells = [case.name, '%.1f' % own, count(calls(words_of(folder, 'solve'), folder), NODES)] + certificate(folder, own, most)
+    nodes = count(calls(words_of(folder, 'solve'), folder), NODES)
+    cells = [case.name, '%.1f' % own, nodes] + certificate(folder, own, most)
     path, solution = os.path.join(folder, 'model.lp'), os.path.join(folder, 'solution')
     write_lp(case, path)
-    peers = [highs(case, most), solver(['glpsol', '--lp', path, '-o', solution], most), solver(['cbc', path, 'solve', 'solu', solution, 'quit'], most)]
-    return '| ' + ' | '.join(cells + [cell(peer, own, 1) for peer in peers]) + ' |'
+    works = [highs(case, most), solver(['glpsol', '--lp', path, '-o', solution], most), solver(['cbc', path, 'solve', 'solu', solution, 'quit'], most)]
+    peers = [timed(work) for work in works]
+    return '| ' + ' | '.join(cells + [told(peer, own) for peer in peers]) + ' |', (own, nodes, best_peer(peers, empty))
+
+
+def median_row(name, figures, empty):
+    """The medians over the seeds of the time, the nodes, the best peer, and its ratio with and without what starting a process takes. A
+    peer that was cut off counts with the time it had."""
+    if any(figure is None for figure in figures):
+        return '| %s | not each ended |  |  |  |  |' % name
+    owns, nodes, peers = zip(*figures)
+    counted = str(round(statistics.median(int(met) for met in nodes))) if all(met.isdigit() for met in nodes) else nodes[0]
+    cells = [name, '%.1f' % statistics.median(owns), counted]
+    if any(peer is None for peer in peers):
+        return '| ' + ' | '.join(cells + ['not installed', '', '']) + ' |'
+    least = '' if all(whole for _, whole, _ in peers) else 'more than '
+    ratios = [took / own for own, (took, _, _) in zip(owns, peers)]
+    without = [(took - start) / max(own - empty, 0.01) for own, (took, _, start) in zip(owns, peers)]
+    cells += [least + '%.1f' % statistics.median(took for took, _, _ in peers), least + '%.0fx' % statistics.median(ratios), least + '%.0fx' % statistics.median(without)]
+    return '| ' + ' | '.join(cells) + ' |'
 
 
 def main():
@@ -205,14 +254,21 @@ def main():
     parser.add_argument('--sparse', type=int, nargs='*', default=[24, 48], help='how many products, for each a row where most buy nothing and two thirds of the attractions are 0')
     parser.add_argument('--many', type=int, nargs='*', default=[32], help='how many products, for each a row of ten segments')
     parser.add_argument('--categories', type=int, nargs='*', default=[32], help='how many products, for each a row under category caps')
+    parser.add_argument('--seeds', type=int, nargs='*', default=[7], help='the seeds of each input; with more than one a table of medians follows')
     parser.add_argument('--seconds', type=int, default=60, help='how long a piece of work may take')
     given = parser.parse_args()
     families = [(trial, given.trial), (reluctant, given.reluctant), (sparse, given.sparse), (many, given.many), (categories, given.categories)]
-    cases = [family(n, 7) for family, counts in families for n in counts]
     lines = ['Milliseconds, the least of %d; in brackets how many times the time of solve. The peers run once, at most %d seconds. Nodes are those of one solve without a certificate.' % (REPEATS, given.seconds),
              '', machine(), '',
              '| input | solve | nodes | solve with a certificate | check | its lines | its bytes | HiGHS | GLPK | CBC |', '|---|---|---|---|---|---|---|---|---|---|']
-    lines += in_folder(lambda folder: [row(case, folder, given.seconds) for case in cases])
+    groups = [[family(n, seed) for seed in given.seeds] for family, counts in families for n in counts]
+    empty = empty_process()
+    found = in_folder(lambda folder: [[row(case, folder, given.seconds, empty) for case in group] for group in groups])
+    lines += [line for rows in found for line, _ in rows]
+    if len(given.seeds) > 1:
+        lines += ['', 'Medians over the seeds, beside the best of the peers for each. A process that does nothing takes %.1f; the last column is the ratio without that.' % empty, '',
+                  '| inputs | solve | nodes | best peer | its ratio | without process start |', '|---|---|---|---|---|---|']
+        lines += [median_row(group[0].name.rpartition(',')[0], [figure for _, figure in rows], empty) for group, rows in zip(groups, found)]
     report('solve and check under mixed logit', lines, ['mixed'], given.keep)
 
 
