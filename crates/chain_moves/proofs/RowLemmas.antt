@@ -12,7 +12,7 @@ use Rattle.offer_model.specs.Assortments.{sum_below}
 use Rattle.offer_model.specs.Chains.{ChainData, place_count, parts_along}
 use Rattle.offer_model.specs.ChainValidity.{IsChain}
 use Rattle.chain_moves.specs.declared.rows.Move.{Move}
-use Rattle.chain_moves.specs.Rows.{sum_moves, sum_arcs, AreRows, IsPart, AreParts}
+use Rattle.chain_moves.specs.Rows.{sum_moves, sum_arcs, AreRows, IsPart, AreParts, IsPut}
 
 -- One arc's part of a sum over products.
 point_before : (n to parts : ℕ) (f : ℕ → ℕ) → n ≤ to → sum_below n (λ j. cond (eqb to j) parts 0 * f j) ≡ 0
@@ -79,7 +79,7 @@ part_other arcs left n i arc ms e part = record {
 }
 
 -- A move put last in its row takes its arc off those that are left.
-pub parts_more : (arcs : List Arc) (n k : ℕ) (rows : List (Vec Move Global)) (old new : Vec Move Global) (arc d : Arc)
+parts_more : (arcs : List Arc) (n k : ℕ) (rows : List (Vec Move Global)) (old new : Vec Move Global) (arc d : Arc)
     → k < length arcs → arc ≡ slice_index_or arcs k d → All (λ arc. (arc.from < n) × (arc.to < n)) arcs
     → old ≡ slice_index_or rows arc.from old → new.items ≡ old.items ++ record { to = arc.to; parts = arc.parts } ∷ []
     → AreParts arcs (drop k arcs) n rows → AreParts arcs (drop (k + 1) arcs) n (slice_set rows arc.from new)
@@ -100,6 +100,33 @@ parts_more arcs n k rows old new arc d l is ends was now parts =
             part_other arcs (drop (k + 1) arcs) n i arc r.items (λ q. e (sym q)) before)
       ];
     }
+
+silent : (b : Bool) (parts value : ℕ) → parts ≡ 0 → cond b (parts * value) 0 ≡ 0
+silent true parts value e = rw e (omega arith)
+silent false parts value e = refl
+
+part_silent : (arcs left : List Arc) (n i : ℕ) (arc : Arc) (ms : List Move) → arc.parts ≡ 0 → IsPart arcs (arc ∷ left) n i ms → IsPart arcs left n i ms
+part_silent arcs left n i arc ms e part = record {
+  sums = λ f. let before = part.sums f in let none = silent (eqb arc.from i) arc.parts (f arc.to) e in omega (arith, before, none);
+  ends = part.ends;
+}
+
+-- An arc without parts is no loss.
+parts_silent : (arcs : List Arc) (n k : ℕ) (rows : List (Vec Move Global)) (arc d : Arc) → k < length arcs → arc ≡ slice_index_or arcs k d → arc.parts ≡ 0
+    → AreParts arcs (drop k arcs) n rows → AreParts arcs (drop (k + 1) arcs) n rows
+parts_silent arcs n k rows arc d l is e parts =
+    let left : drop k arcs ≡ arc ∷ drop (k + 1) arcs = drop_more arcs k d l ∙ ap (λ z. z ∷ drop (k + 1) arcs) (sym is) in
+    record {
+      each = parts.each;
+      part = λ i r li at. part_silent arcs (drop (k + 1) arcs) n i arc r.items e (rw left at (parts.part i r li at));
+    }
+
+-- An arc that was put is off those that are left.
+pub parts_put : (arcs : List Arc) (n k : ℕ) (rows rows' : List (Vec Move Global)) (arc d : Arc)
+    → k < length arcs → arc ≡ slice_index_or arcs k d → All (λ arc. (arc.from < n) × (arc.to < n)) arcs
+    → IsPut rows arc rows' → AreParts arcs (drop k arcs) n rows → AreParts arcs (drop (k + 1) arcs) n rows'
+parts_put arcs n k rows rows' arc d l is ends (inl h) parts = rw h.1 (parts_silent arcs n k rows arc d l is h.0 parts)
+parts_put arcs n k rows rows' arc d l is ends (inr h) parts = rw h.4 (parts_more arcs n k rows h.0 h.1 arc d l is ends h.2 h.3 parts)
 
 -- Where no arc is left these are the chain's rows.
 pub parts_end : (c : ChainData) (k : ℕ) (rows : List (Vec Move Global)) → IsChain c → length c.arcs ≤ k → AreParts c.arcs (drop k c.arcs) (place_count c) rows → AreRows c rows

@@ -1,5 +1,5 @@
 -- The moves of a chain, product by product. They follow from its arcs.
-use Rattle.std.specs.Prelude.{◌≡◌, ℕ, ◌+◌, ◌*◌, ◌<◌, ◌==◌, cond, List, [], ◌∷◌, length, slice_index_or, Vec, All}
+use Rattle.std.specs.Prelude.{◌≡◌, ◌⊎◌, ◌++◌, slice_set, ℕ, ◌+◌, ◌*◌, ◌<◌, ◌==◌, cond, List, [], ◌∷◌, length, slice_index_or, Vec, All}
 use Rattle.std.specs.Global.{Global}
 use Rattle.offer_model.specs.declared.arc.Arc.{Arc}
 use Rattle.offer_model.specs.Chains.{ChainData, place_count, moved}
@@ -34,3 +34,9 @@ pub record IsPart (arcs left : List Arc) (n i : ℕ) (ms : List Move) : Type 0 w
 pub record AreParts (arcs left : List Arc) (n : ℕ) (rows : List (Vec Move Global)) : Type 0 where
   pub each : length rows ≡ n
   pub part : (i : ℕ) (r : Vec Move Global) → i < n → r ≡ slice_index_or rows i r → IsPart arcs left n i r.items
+
+-- The arc moves nobody and the rows are as they were, or its move stands last in the row of its product.
+abbrev pub IsPut : List (Vec Move Global) → Arc → List (Vec Move Global) → Type 0
+IsPut before arc after = ((arc.parts ≡ 0) × (after ≡ before))
+    ⊎ ((old : Vec Move Global) × (new : Vec Move Global) × (old ≡ slice_index_or before arc.from old)
+    × (new.items ≡ old.items ++ record { to = arc.to; parts = arc.parts } ∷ []) × (after ≡ slice_set before arc.from new))

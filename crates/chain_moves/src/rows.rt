@@ -1,11 +1,11 @@
 //! The moves of a chain, product by product.
-ghost use Rattle.std.specs.Prelude.{◌≡◌, ℕ, ◌*◌, ◌^◌, ◌<◌, ◌≤◌, length, slice_index, slice_index_or, IfOk, [], Vec, All};
+ghost use Rattle.std.specs.Prelude.{◌≡◌, ℕ, ◌*◌, ◌^◌, ◌<◌, ◌≤◌, length, slice_index, slice_index_or, IfOk, OnOk, [], Vec, All};
 ghost use Rattle.std.specs.Global.{Global};
 ghost use Rattle.chain_moves.specs.declared.rows.Move.{Move};
-ghost use Rattle.chain_moves.specs.Rows.{sum_moves, AreRows};
+ghost use Rattle.chain_moves.specs.Rows.{sum_moves, AreRows, IsPut};
 ghost use Rattle.chain_moves.specs.Values.{AreSmall};
 
-use offer_model::{Chain, NoMemory};
+use offer_model::{Arc, Chain, NoMemory};
 use std::alloc::Global;
 
 /// The customers of a product who move on to product `to`.
@@ -55,18 +55,30 @@ fn empty_rows(alloc: Global, count: usize) -> Result<Vec<Vec<Move>>, NoMemory>
     Ok(rows)
 }
 
-/// The moves from each product.
+/// Puts an arc's move last in the row of its product, where somebody takes it.
+fn put(rows: &mut Vec<Vec<Move>>, arc: Arc) -> Result<(), NoMemory>
+    requires { arc.from < length rows.old.items }
+    ensures { OnOk result (IsPut rows.old.items arc rows.new.items) }
+{
+    if arc.parts == 0 {
+        return Ok(());
+    }
+    let row = &mut rows[arc.from];
+    row.push(Move {
+        to: arc.to,
+        parts: arc.parts,
+    })?;
+    Ok(())
+}
+
+/// The moves from each product, without those that nobody takes.
 pub fn rows_of(alloc: Global, chain: &Chain) -> Result<Vec<Vec<Move>>, NoMemory>
     ensures { IfOk result (λ rows. AreRows chain.now rows.items) }
 {
     let mut rows = empty_rows(alloc, chain.margins().len())?;
     let arcs = chain.arcs().as_slice();
     'each: for arc in arcs {
-        let row = &mut rows[arc.from];
-        row.push(Move {
-            to: arc.to,
-            parts: arc.parts,
-        })?;
+        put(&mut rows, *arc)?;
     }
     Ok(rows)
 }
