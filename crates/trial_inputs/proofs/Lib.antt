@@ -1,0 +1,5 @@
+pub mod WordLemmas
+pub mod ListedLemmas
+pub mod WorkedTrialLemmas
+pub mod SegmentLemmas
+pub mod TrialLemmas

@@ -1,0 +1,2 @@
+pub mod TrialInputs
+pub mod WorkedTrials
