@@ -1,0 +1,2 @@
+pub mod EvalReports
+pub mod WorkedReports
