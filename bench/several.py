@@ -90,8 +90,7 @@ def main():
     parser.add_argument('--products', type=int, nargs='*', default=[12, 24, 40, 64], help='how many products, for each a row loose and one binding')
     parser.add_argument('--seconds', type=int, default=60, help='how long a peer and the writing of a certificate may take')
     given = parser.parse_args()
-    lines = ['Milliseconds, the least of %d; in brackets how many times the time of solve. GLPK and CBC run once, at most %d seconds. Trials are the revenues'
-             % (REPEATS, given.seconds), 'that were tried, nodes those of all searches of one solve together, both without a certificate.',
+    lines = ['Milliseconds, the least of %d; in brackets how many times the time of solve. GLPK and CBC run once, at most %d seconds. Trials are the revenues that were tried, nodes those of all searches of one solve together, both without a certificate.' % (REPEATS, given.seconds),
              '', machine(), '',
              '| input | solve | trials | nodes | solve with a certificate | check | its lines | its bytes | GLPK | CBC |', '|---|---|---|---|---|---|---|---|---|---|']
     lines += in_folder(lambda folder: [row(several(n, binding), folder, given.seconds) for n in given.products for binding in (False, True)])
