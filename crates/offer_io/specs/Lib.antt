@@ -1,5 +1,6 @@
 pub mod Causes
 pub mod Stores
+pub mod Pieces
 pub mod Sinks
 pub mod Plans
 pub mod Entries
