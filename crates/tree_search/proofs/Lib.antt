@@ -4,6 +4,7 @@ pub mod StackLemmas
 pub mod SizeLemmas
 pub mod TaskLemmas
 pub mod RunLemmas
+pub mod BeginLemmas
 pub mod WalkLemmas
 pub mod GiveLemmas
 pub mod OpenLemmas

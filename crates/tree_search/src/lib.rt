@@ -1,6 +1,7 @@
 //! A search for the top of a goal: nodes are divided until they clash, or their bounds or the best found close them.
 #![tactic(auto)]
 
+mod begin;
 mod branch_order;
 mod branching;
 mod event;
@@ -15,6 +16,7 @@ mod weights_goal;
 mod worker;
 mod world;
 
+pub use begin::greedy;
 pub use event::Event;
 pub use goal::Goal;
 pub use laws::{ended_has_top, events_keep_covered};

@@ -4,6 +4,7 @@ ghost use Rattle.tree_search.specs.Goals.{IsTop, IsGreatestOf};
 ghost use Rattle.tree_search.specs.Turns.{Turn, IsSound, HasBoundInRange};
 ghost use Rattle.tree_search.specs.Progress.{Matches, HasBy, Has, IsFeasibleBest, IsOwn, IsReached};
 
+use crate::begin::greedy;
 use crate::goal::Goal;
 use crate::tasks::tasks_of;
 use crate::walker::Walker;
@@ -68,7 +69,7 @@ fn run<T: Goal>(walker: &mut Walker, goal: &mut T, equals: bool)
     }
 }
 
-/// Works the tasks in order on one walker. Where equals count, what it finds is the one that is before the others.
+/// Works the tasks in order on one walker, whose best is at first the one that a dive finds. Where equals count, what it finds is the one that is before the others.
 fn search<T: Goal>(
     alloc: Global,
     goal: &mut T,
@@ -78,9 +79,11 @@ fn search<T: Goal>(
     ensures greatest { IfOk result (λ best. IsGreatestOf (T.rules goal.old) best) }
     ensures same { goal.new ≡ goal.old }
 {
-    let products = goal.products();
-    let mut walker = Walker::reserve(alloc, products)?;
-    for task in 0..tasks_of(products) {
+    let Some(first) = greedy(alloc, goal)? else {
+        return Ok(None);
+    };
+    let mut walker = Walker::reserve_with(alloc, first)?;
+    for task in 0..tasks_of(goal.products()) {
         walker.start(goal, task);
         run(&mut walker, goal, equals);
     }

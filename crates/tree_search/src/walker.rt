@@ -1,9 +1,10 @@
 //! A depth-first search, one node at a time.
-ghost use Rattle.std.specs.Prelude.{◌≡◌, ◌≢◌, ◌↔◌, ◌+◌, ◌<◌, ◌≤◌, ◌++◌, [], ◌∷◌, length, slice_set, vec_len, vec_capacity, option_copied, IfOk, IsTrue};
+ghost use Rattle.std.specs.Prelude.{◌≡◌, ◌≢◌, ◌↔◌, ◌+◌, ◌<◌, ◌≤◌, ◌++◌, [], ◌∷◌, length, slice_set, vec_len, vec_capacity, option_copied, Some, None, IfOk, IsTrue};
 ghost use Rattle.offer_model.specs.declared.node.Mark.TheVariants.{In, Out};
+ghost use Rattle.offer_model.specs.Nodes.{open_node};
 ghost use Rattle.tree_search.specs.Tasks.{tasks_of, task_of};
 ghost use Rattle.tree_search.specs.Turns.{with_stack, Turn, IsSound, HasBoundInRange};
-ghost use Rattle.tree_search.specs.Rooms.{AllLong};
+ghost use Rattle.tree_search.specs.Rooms.{AllLong, best_of};
 ghost use Rattle.tree_search.specs.Gives.{IsGiven};
 
 use crate::goal::Goal;
@@ -67,28 +68,45 @@ fn push_divided(stack: &mut Vec<Node>, free: &mut Vec<Node>, node: Node, product
     stack.push_reserved(inside);
 }
 
+/// A walker with an empty stack and room for `n + 1` nodes.
+fn with_room(alloc: Global, n: usize, found: bool, best: Assortment) -> Result<Walker, NoMemory>
+    requires { length best ≡ n }
+    ensures { IfOk result (λ w. w ≡ record { stack = []; best = best_of found best; products = n }) }
+{
+    let Some(nodes) = n.checked_add(1) else {
+        return Err(NoMemory);
+    };
+    let stack = Vec::with_capacity(alloc, nodes)?;
+    let mut free = Vec::with_capacity(alloc, nodes)?;
+    for _made in 0..nodes {
+        free.push_reserved(Node::open(alloc, n)?);
+    }
+    Ok(Walker {
+        stack,
+        free,
+        root: Node::open(alloc, n)?,
+        products: n,
+        found,
+        best,
+        scratch: Assortment::empty(alloc, n)?,
+    })
+}
+
 impl Walker {
     /// A walker for goals of `n` products. It takes room for `n + 1` nodes, and its other calls take no memory.
     pub fn reserve(alloc: Global, n: usize) -> Result<Walker, NoMemory>
         ensures { IfOk result (λ w. w ≡ record { stack = []; best = None; products = n }) }
     {
-        let Some(nodes) = n.checked_add(1) else {
-            return Err(NoMemory);
-        };
-        let stack = Vec::with_capacity(alloc, nodes)?;
-        let mut free = Vec::with_capacity(alloc, nodes)?;
-        for _made in 0..nodes {
-            free.push_reserved(Node::open(alloc, n)?);
-        }
-        Ok(Walker {
-            stack,
-            free,
-            root: Node::open(alloc, n)?,
-            products: n,
-            found: false,
-            best: Assortment::empty(alloc, n)?,
-            scratch: Assortment::empty(alloc, n)?,
-        })
+        let best = Assortment::empty(alloc, n)?;
+        with_room(alloc, n, false, best)
+    }
+
+    /// The same, which holds the assortment as its best.
+    pub fn reserve_with(alloc: Global, best: Assortment) -> Result<Walker, NoMemory>
+        ensures { IfOk result (λ w. w ≡ record { stack = []; best = Some best; products = length best }) }
+    {
+        let n = best.len();
+        with_room(alloc, n, true, best)
     }
 
     /// How many products the walker's goals have.
@@ -148,6 +166,18 @@ impl Walker {
         };
         self.free.push_reserved(spare);
         other.stack.push_reserved(node);
+    }
+
+    /// Puts the node on the stack in which all is Open.
+    pub(crate) fn begin(&mut self)
+        requires idle { self.old.stack ≡ [] }
+        ensures { self.new ≡ with_stack self.old (open_node self.old.products ∷ []) }
+    {
+        let Some(mut node) = self.free.pop() else {
+            unreachable!();
+        };
+        node.copy_from(&self.root);
+        self.stack.push_reserved(node);
     }
 
     /// Puts the node of a task on the stack.

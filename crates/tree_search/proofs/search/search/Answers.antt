@@ -1,5 +1,5 @@
-use Rattle.std.proofs.Common.{ap, subst, refl, ◌≡◌, ◌∙◌, List, [], ◌∷◌, None, ℕ, Bool}
-use Rattle.tree_search.specs.Goals.{Rules}
+use Rattle.std.proofs.Common.{ap, sym, subst, Some, refl, ◌≡◌, ◌∙◌, List, [], ◌∷◌, Bool}
+use Rattle.tree_search.specs.Goals.{Rules, IsFeasibleFor, IsFoundOf}
 use Rattle.tree_search.specs.Tasks.{task_of}
 use Rattle.tree_search.specs.Turns.{Walk, with_stack}
 use Rattle.tree_search.specs.Progress.{Covers, Matches, HasBy, Has, IsFeasibleBest}
@@ -8,19 +8,23 @@ use Rattle.tree_search.proofs.search.search.Goals as goal
 
 pub loop-task-init : goal.loop-task-init
 loop-task-init g c =
-    let r : Rules = g.T.Goal.rules c.args.goal.now in
-    let e : c.in_ok-walker.walker ≡ record { stack = []; best = None; products = r.products } =
-    c.in_ok-walker.ensures ∙ ap (λ (n : ℕ). record { stack = []; best = None; products = n }) c.products-products.ensures in
+    let r : Rules = g.T.Goal.rules c.greedy.new.goal in
+    let e = c.in_ok-walker.ensures in
+    let found : IsFeasibleFor r c.in-Some.first =
+    subst (λ x. IsFoundOf (g.T.Goal.rules x) (Some c.in-Some.first)) (sym c.in_ok-first.ensures.same)
+    (subst (IsFoundOf (g.T.Goal.rules c.args.goal.now)) c.in-Some.is c.in_ok-first.ensures.found) in
+    let products = ap (λ (w : Walk). w.products) e ∙ found.0 in
+    let feasible = subst (IsFeasibleBest r) (sym (ap (λ (w : Walk). w.best) e)) found in
     record {
       same = refl;
       empty = ap (λ (w : Walk). w.stack) e;
-      progress = λ t. progress_starts r (Covers r) c.in_ok-walker.walker e;
-      matched = progress_starts r (Matches r) c.in_ok-walker.walker e;
+      progress = λ t. progress_starts r (Covers r) c.in_ok-walker.walker products feasible;
+      matched = progress_starts r (Matches r) c.in_ok-walker.walker products feasible;
     }
 
 pub loop-task-preserved : goal.loop-task-preserved
 loop-task-preserved g c =
-    let r : Rules = g.T.Goal.rules c.args.goal.now in
+    let r : Rules = g.T.Goal.rules c.greedy.new.goal in
     let i = c.loop-task.invariant in
     let w = c.loop-task.walker in
     let is : c.start.new.self ≡ with_stack w (task_of r c.loop-task.task ∷ []) =
