@@ -32,9 +32,9 @@ mixed_in_range p valid = record {
 lesser_between : (a b : ℕ) → a ≤ 10 ^ 18 → IsSmall (pos (min a b))
 lesser_between a b l = between (min a b) (omega arith)
 
--- So are they with the lesser of both bounds.
-pub tangent_in_range : (p : ProblemData) → IsProblem p → AnswersInRange (tangent_rules p)
-tangent_in_range p valid = record {
+-- So are they with the lesser of both bounds, in whatever order nodes are divided.
+pub tangent_in_range : (p : ProblemData) (order : List ℕ) → IsProblem p → AnswersInRange (tangent_rules p order)
+tangent_in_range p order valid = record {
   values = λ x e. between (value_of p x) (value_of-most p x valid);
   bounds = λ node e. lesser_between (greatest_sum p node) (tangent_bound p node) (greatest_sum-most p node valid);
 }

@@ -4,6 +4,7 @@ pub mod GreatestLemmas
 pub mod CapLemmas
 pub mod DearestLemmas
 pub mod KeptLemmas
+pub mod NextLemmas
 pub mod GoalLemmas
 pub mod LinearLemmas
 pub mod TopLemmas

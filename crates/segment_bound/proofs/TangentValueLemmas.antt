@@ -23,11 +23,11 @@ use Rattle.segment_bound.specs.Sums.{gain_in, AreSums}
 use Rattle.segment_bound.specs.Greatest.{greatest}
 use Rattle.segment_bound.specs.Kept.{Fits, IsKept, sums_at, listed_segment}
 use Rattle.segment_bound.specs.MixedGoals.{greatest_sum}
-use Rattle.segment_bound.specs.Tangents.{parts, units_at, room_at, added, within_cap, scale_at, share_at, raised, lowered, tangent_bound}
+use Rattle.segment_bound.specs.Tangents.{parts, units_at, most_offered, room_at, added, within_cap, scale_at, share_at, raised, lowered, tangent_bound}
 use Rattle.segment_bound.specs.TangentLaws.{scaled_most, capped_most, room_bounded}
 use Rattle.segment_bound.specs.Tops.{IsTopOf}
 use Rattle.segment_bound.specs.Slopes.{AreReached, AreSlopes, slope_at, open_attraction, parts_of, gains_of, costs_of, raise_of, open_raise, heights_of, depths_of, AreSmall, HasSmallParts, HaveSmallParts}
-use Rattle.segment_bound.proofs.OrderLemmas.{sum_order, order_of}
+use Rattle.segment_bound.proofs.OrderLemmas.{length-order, sum_order, order_of}
 use Rattle.segment_bound.proofs.KeptLemmas.{start_small}
 use Rattle.segment_bound.proofs.GreatestLemmas.{picked, picked_completes, picked_offers, chosen, weight_plain, shadow_none, greatest_sum-most}
 use Rattle.segment_bound.proofs.LinearLemmas.{term_below}
@@ -158,6 +158,15 @@ reached_below p order segments node sums fits kept reached =
       where
         fits_both : (u c w w' g g' : ℕ) → w ≡ w' → g ≡ g' → u * w ≤ c * g → u * w' ≤ c * g'
         fits_both u c w w' g g' a b l = subst (λ t. u * t ≤ c * g') a (subst (λ t. u * w ≤ c * t) b l)
+
+-- ---- The room.
+
+-- What the cap leaves room for.
+pub room_is : (r cap : ℕ) (p : ProblemData) (node : List Mark) (order : List Ranked) → IsOrder p order → length node ≡ length order → cap ≡ most_offered p
+    → r ≡ cap - sum_below (length node) (λ i. cond (is_in (mark_at node i)) 1 0) → r ≡ room_at p node
+room_is r cap p node order o long e h =
+    let n : length node ≡ product_count p = long ∙ length-order p order o in
+    h ∙ (ap (λ t. t - sum_below (length node) (λ i. cond (is_in (mark_at node i)) 1 0)) e ∙ ap (λ t. most_offered p - sum_below t (λ i. cond (is_in (mark_at node i)) 1 0)) n)
 
 -- ---- All segments.
 

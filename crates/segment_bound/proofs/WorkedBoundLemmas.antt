@@ -19,4 +19,7 @@ bounds_worked = record {
   one_of_category = refl;
   three_of_five = refl;
   none_left = refl;
+  first_of_order = refl;
+  next_of_order = refl;
+  none_of_order = refl;
 }

@@ -1,6 +1,6 @@
 -- No completion brings more than the tangent, so the goal with both bounds keeps the laws of goals. They stand here since the
 -- goal's impl can cite only what stands in specs/.
-use Rattle.std.specs.Prelude.{◌≡◌, ℕ, ◌+◌, ◌-◌, ◌*◌, ◌/◌, ◌≤◌, ◌==◌, min, nat_lt, Bool, true, false, ◌&&◌, ◌||◌, cond, List, [], ◌∷◌, length}
+use Rattle.std.specs.Prelude.{◌≡◌, ℕ, ◌+◌, ◌-◌, ◌*◌, ◌/◌, ◌≤◌, ◌==◌, min, nat_lt, Bool, true, false, ◌&&◌, ◌||◌, cond, Some, List, [], ◌∷◌, length}
 use Rattle.std.specs.List.{All}
 use Rattle.std.proofs.Common.{zero, suc, refl, sym, ap, subst, arith}
 use Rattle.std.proofs.lemmas.Bool.Decides.{nat_tests}
@@ -18,11 +18,12 @@ use Rattle.offer_model.specs.Limits.{Meets, IsFeasible}
 use Rattle.offer_model.specs.Nodes.{mark_at, is_in, is_open, Agrees, Completes}
 use Rattle.offer_model.proofs.SumLemmas.{sum_le}
 use Rattle.offer_model.proofs.CompletionLemmas.{Completes-agrees}
-use Rattle.tree_search.specs.Goals.{IsLawful}
+use Rattle.offer_model.proofs.PotentialLemmas.{is_open-true}
+use Rattle.tree_search.specs.Goals.{IsLawful, IsOpenOf}
 use Rattle.segment_bound.specs.Greatest.{greatest}
 use Rattle.segment_bound.specs.MixedGoals.{greatest_sum}
 use Rattle.segment_bound.specs.MixedLaws.{most, value_bounded, mixed_lawful}
-use Rattle.segment_bound.specs.Tangents.{parts, units_at, total_cap, caps_category, left_out, most_offered, room_at, added, within_cap, scale_at, share_at, raised, lowered, tangent_at, tangent_bound, tangent_rules}
+use Rattle.segment_bound.specs.Tangents.{parts, units_at, total_cap, caps_category, left_out, most_offered, room_at, added, within_cap, scale_at, share_at, raised, lowered, tangent_at, tangent_bound, next_in, tangent_rules}
 
 -- ---- The inequality, in natural numbers.
 
@@ -219,10 +220,19 @@ tangent_bounded p node y c f = room_bounded p node y c (has_room p node y c f)
 lesser : (v a b : ℕ) → v ≤ a → v ≤ b → v ≤ min a b
 lesser v a b l m = omega arith
 
-pub tangent_lawful : (p : ProblemData) → IsLawful (tangent_rules p)
-tangent_lawful p = record {
+-- The next product is Open.
+next_open : (p : ProblemData) (node : List Mark) (order : List ℕ) → length node ≡ product_count p → IsOpenOf node (next_in p node order)
+next_open p node [] l = (mixed_lawful p).next node l
+next_open p node (i ∷ order) l = by_mark (is_open (mark_at node i)) refl (next_open p node order l)
+  where
+    by_mark : (b : Bool) → is_open (mark_at node i) ≡ b → IsOpenOf node (next_in p node order) → IsOpenOf node (cond b (Some i) (next_in p node order))
+    by_mark true e rest = is_open-true (mark_at node i) e
+    by_mark false e rest = rest
+
+pub tangent_lawful : (p : ProblemData) (order : List ℕ) → IsLawful (tangent_rules p order)
+tangent_lawful p order = record {
   clashing = (mixed_lawful p).clashing;
   full = (mixed_lawful p).full;
   bounded = λ node x l c f. (let r = lesser (value_of p x) (greatest_sum p node) (tangent_bound p node) (value_bounded p node x c) (tangent_bounded p node x c f) in omega (arith, ints));
-  next = (mixed_lawful p).next;
+  next = λ node l. next_open p node order l;
 }

@@ -1,6 +1,6 @@
 -- The tangent of mixed revenue at a node: a linear function of what is offered, in 2 ^ 60ths of a unit, which is nowhere
 -- below the revenue of a completion that keeps to the caps. Own.
-use Rattle.std.specs.Prelude.{ℕ, ◌+◌, ◌-◌, ◌*◌, ◌/◌, ◌^◌, ◌==◌, min, nat_lt, pos, Bool, false, ◌&&◌, ◌||◌, cond, List, [], ◌∷◌, length}
+use Rattle.std.specs.Prelude.{ℕ, ◌+◌, ◌-◌, ◌*◌, ◌/◌, ◌^◌, ◌==◌, min, nat_lt, pos, Bool, false, ◌&&◌, ◌||◌, cond, Option, Some, List, [], ◌∷◌, length}
 use Rattle.offer_model.specs.declared.node.Mark.{Mark}
 use Rattle.offer_model.specs.declared.products.Limit.{Limit}
 use Rattle.offer_model.specs.declared.products.Limit.TheVariants.{Total, Category, Requires, Shelf, Ladder}
@@ -10,6 +10,7 @@ use Rattle.offer_model.specs.Nodes.{mark_at, is_in, is_open}
 use Rattle.offer_model.specs.Revenue.{gain_of, weight_of, segment_value}
 use Rattle.tree_search.specs.Goals.{Rules}
 use Rattle.segment_bound.specs.Greatest.{greatest}
+use Rattle.segment_bound.specs.Orders.{dearest}
 use Rattle.segment_bound.specs.MixedGoals.{greatest_sum, mixed_rules}
 
 -- A unit has so many parts.
@@ -99,6 +100,19 @@ tangent_at p node y = raised p node y - lowered p node y
 abbrev pub tangent_bound : ProblemData → List Mark → ℕ
 tangent_bound p node = greatest (within_cap p node (tangent_at p node)) node / parts
 
--- The goal of mixed logit with the lesser of both bounds: of each segment by itself, and of all together.
-abbrev pub tangent_rules : ProblemData → Rules
-tangent_rules p = record (mixed_rules p) { bound = λ node. pos (min (greatest_sum p node) (tangent_bound p node)) }
+-- A goal as contracts see it: its problem, and the products by which nodes are divided, one after another.
+pub record TangentGoalData : Type 0 where
+  pub problem : ProblemData
+  pub order : List ℕ
+
+-- The first Open product of the order, and the dearest one where the order has none.
+abbrev pub next_in : ProblemData → List Mark → List ℕ → Option ℕ
+next_in p node [] = dearest p node
+next_in p node (i ∷ order) = cond (is_open (mark_at node i)) (Some i) (next_in p node order)
+
+-- The goal of mixed logit with the lesser of both bounds, of each segment by itself and of all together. Nodes are divided in the order.
+abbrev pub tangent_rules : ProblemData → List ℕ → Rules
+tangent_rules p order = record (mixed_rules p) {
+  bound = λ node. pos (min (greatest_sum p node) (tangent_bound p node));
+  next = λ node. next_in p node order;
+}

@@ -9,7 +9,7 @@ use Rattle.offer_model.specs.WorkedValues.{plain_product, plain_segment}
 use Rattle.segment_bound.specs.Greatest.{greatest}
 use Rattle.segment_bound.specs.Orders.{dearest}
 use Rattle.segment_bound.specs.MixedGoals.{greatest_sum}
-use Rattle.segment_bound.specs.Tangents.{most_offered, tangent_bound}
+use Rattle.segment_bound.specs.Tangents.{most_offered, tangent_bound, next_in}
 
 -- margins 6 and 10; a segment of size 1 with attractions and nothing 1, and one of size 2 with attractions 2 and 0 and nothing 3
 abbrev pub two_segments : ProblemData
@@ -36,6 +36,7 @@ five_products = record two_segments {
 -- In 2 ^ 60ths, with one product at most: no weight is above 2 and 5, so that the tangent is 9 - 5 / 2 - 12 / 5 where nothing is
 -- offered, 37 / 10 more with the first, and 5 / 2 more with the second. Without limits weights are 3 and 5 at most.
 -- both bring 16 div 3 and 24 div 5; the second alone 10 div 2 and 0, the first alone 6 div 2 and 24 div 5
+-- a node is divided by the first Open product of the order, and by the dearest one where the order has none
 pub record BoundsAreWorked : Type 0 where
   pub both : value_of two_segments (true ∷ true ∷ []) ≡ 9
   pub first : greatest (segment_value two_segments (segment_at two_segments 0)) (Open ∷ Open ∷ []) ≡ 5
@@ -51,3 +52,6 @@ pub record BoundsAreWorked : Type 0 where
   pub one_of_category : tangent_bound one_category (Open ∷ Open ∷ []) ≡ 7
   pub three_of_five : most_offered five_products ≡ 3
   pub none_left : tangent_bound (record two_segments { limits = Total 1 ∷ [] }) (Open ∷ In ∷ []) ≡ 5
+  pub first_of_order : next_in two_segments (Open ∷ Open ∷ []) (0 ∷ 1 ∷ []) ≡ Some 0
+  pub next_of_order : next_in two_segments (In ∷ Open ∷ []) (0 ∷ 1 ∷ []) ≡ Some 1
+  pub none_of_order : next_in two_segments (Open ∷ Open ∷ []) [] ≡ Some 1

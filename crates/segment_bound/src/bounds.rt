@@ -1,5 +1,6 @@
 //! The greatest values of a node, segment by segment.
-ghost use Rattle.std.specs.Prelude.{◌≡◌, ◌≤◌, length, min, true, false, vec_capacity, IfOk};
+ghost use Rattle.std.specs.Prelude.{◌≡◌, ◌≤◌, ◌<◌, length, min, true, false, vec_capacity, IfOk};
+ghost use Rattle.std.specs.List.{All};
 ghost use Rattle.offer_model.specs.declared.products.ModelName.TheVariants.{Mixed};
 ghost use Rattle.offer_model.specs.Problems.{product_count};
 ghost use Rattle.offer_model.specs.NodeValues.{AreGreatestValues};
@@ -9,9 +10,11 @@ ghost use Rattle.segment_bound.specs.MixedGoals.{greatest_sum};
 ghost use Rattle.segment_bound.specs.Slopes.{AreReached};
 ghost use Rattle.segment_bound.specs.Tangents.{most_offered, tangent_bound};
 
+use crate::caps::most_offered;
 use crate::follow::follow;
 use crate::greatest::greatest;
 use crate::order::{Ranked, by_margin, first_open};
+use crate::prices::by_price;
 use crate::sums::{Sums, sum_of};
 use crate::tangent::{Slope, tangent};
 use offer_model::{NoMemory, Node, Problem, Segments, copy_segments, share};
@@ -180,6 +183,50 @@ impl Bounds {
             numbers,
         );
         apart.min(together)
+    }
+
+    /// The products by falling price at the node: what offering each raises the tangent by.
+    pub(crate) fn by_price(
+        &mut self,
+        alloc: Global,
+        p: &Problem,
+        node: &Node,
+    ) -> Result<Vec<usize>, NoMemory>
+        requires fits { Fits p.now self.old }
+        requires node { length node.now ≡ product_count p.now }
+        ensures inside { IfOk result (λ order. All (λ i. i < product_count p.now) order.items) }
+    {
+        follow(
+            &self.order,
+            &self.segments,
+            node,
+            &mut self.last,
+            &mut self.sums,
+        );
+        let mut greatest = vec![in alloc; 0; self.sums.len()]?;
+        let mut slopes = vec![in alloc; Slope::default(); self.sums.len()]?;
+        let mut numbers = Vec::new(alloc);
+        numbers.reserve(self.order.len())?;
+        greatest_each(
+            p,
+            &self.order,
+            &self.segments,
+            &self.sums,
+            node,
+            &mut greatest,
+        );
+        by_price(
+            alloc,
+            p,
+            &self.order,
+            &self.segments,
+            node,
+            &self.sums,
+            &greatest,
+            most_offered(p),
+            &mut slopes,
+            &mut numbers,
+        )
     }
 
     /// The Open product of greatest margin, the first of several, or `None` where nothing is Open.

@@ -9,6 +9,7 @@ mod greatest;
 mod laws;
 mod mixed_goal;
 mod order;
+mod prices;
 mod sums;
 mod tangent;
 mod tangent_goal;

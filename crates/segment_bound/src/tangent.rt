@@ -11,7 +11,7 @@ ghost use Rattle.segment_bound.specs.Sums.{AreSums};
 ghost use Rattle.segment_bound.specs.Kept.{Fits, IsKept, IsListed};
 ghost use Rattle.segment_bound.specs.Tangents.{parts, units_at, most_offered, room_at, tangent_bound};
 ghost use Rattle.segment_bound.specs.Tops.{IsTopOf, Lists};
-ghost use Rattle.segment_bound.specs.Slopes.{IsSlope, AreSlopes, open_attraction, raise_of, open_raise, heights_of, depths_of, AreSmall, IsCheap, HasSmallParts, HaveSmallParts};
+ghost use Rattle.segment_bound.specs.Slopes.{IsSlope, AreSlopes, open_attraction, gains_of, costs_of, raise_of, open_raise, heights_of, depths_of, AreSmall, IsCheap, HasSmallParts, HaveSmallParts};
 
 use crate::order::{Ranked, is_in, is_open};
 use crate::sums::Sums;
@@ -29,8 +29,15 @@ pub struct Slope {
     pub scale: u64,
 }
 
+/// What a product gains in all segments, and what its weight costs there, in parts.
+#[derive(Clone, Copy)]
+pub struct Price {
+    pub gains: u128,
+    pub costs: u128,
+}
+
 /// How many of what is Open the cap leaves room for.
-fn room_of(cap: usize, node: &Node) -> usize
+pub fn room_of(cap: usize, node: &Node) -> usize
     ensures { result ≡ cap - sum_below (length node.now) (λ i. cond (is_in (mark_at node.now i)) 1 0) }
 {
     let mut taken = 0;
@@ -101,7 +108,7 @@ fn slope_of(
 }
 
 /// The slopes of all segments.
-fn find_slopes(
+pub fn find_slopes(
     p: &Problem,
     order: &[Ranked],
     segments: &Segments,
@@ -138,6 +145,32 @@ fn find_slopes(
     }
 }
 
+/// What the product gains in all segments, and what its weight costs there, in parts: what offering it adds to the tangent, and
+/// what it takes away.
+pub fn price_of(q: Ranked, segments: &Segments, slopes: &[Slope]) -> Price
+    requires inside { All (λ g. q.product < length g.attract) segments.now.items }
+    requires each { length slopes.now ≡ length segments.now.items }
+    requires margin { q.margin ≤ 10 ^ 9 }
+    requires small { AreSmall slopes.now }
+    requires parts { HasSmallParts segments.now.items slopes.now q }
+    ensures gains { result.gains ≡ gains_of segments.now.items slopes.now q (length slopes.now) }
+    ensures costs { result.costs ≡ costs_of segments.now.items slopes.now q (length slopes.now) }
+
+    // Either is at most 10^18 units.
+    ensures most_gains { result.gains ≤ 2 ^ 60 * 10 ^ 18 }
+    ensures most_costs { result.costs ≤ 2 ^ 60 * 10 ^ 18 }
+{
+    let mut gains = 0u128;
+    let mut costs = 0u128;
+    for k in 0..slopes.len() {
+        let slope = slopes[k];
+        let parts = u128::from(slope.scale * segments.get(k).attract(q.product));
+        gains += parts * u128::from(slope.share * q.margin);
+        costs += parts * u128::from(slope.units);
+    }
+    Price { gains, costs }
+}
+
 /// What offering the product raises the tangent by, in parts, and 0 where it would lower it.
 fn raise(q: Ranked, segments: &Segments, slopes: &[Slope]) -> u128
     requires inside { All (λ g. q.product < length g.attract) segments.now.items }
@@ -150,15 +183,8 @@ fn raise(q: Ranked, segments: &Segments, slopes: &[Slope]) -> u128
     ensures value { result ≡ raise_of segments.now.items slopes.now q }
     ensures bound { result ≤ 2 ^ 60 * 10 ^ 18 }
 {
-    let mut gains = 0u128;
-    let mut costs = 0u128;
-    for k in 0..slopes.len() {
-        let slope = slopes[k];
-        let parts = u128::from(slope.scale * segments.get(k).attract(q.product));
-        gains += parts * u128::from(slope.share * q.margin);
-        costs += parts * u128::from(slope.units);
-    }
-    gains.saturating_sub(costs)
+    let price = price_of(q, segments, slopes);
+    price.gains.saturating_sub(price.costs)
 }
 
 /// Whether some segment gives the margin a gain above what the weight costs there.

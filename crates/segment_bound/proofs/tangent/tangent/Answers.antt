@@ -1,23 +1,9 @@
-use Rattle.std.proofs.Common.{◌≡◌, ℕ, ◌-◌, ◌/◌, cond, List, length, arith, sym, ap, ◌∙◌, subst}
+use Rattle.std.proofs.Common.{◌≡◌, ℕ, ◌/◌, length, arith, sym, ap, ◌∙◌, subst}
 use Rattle.std.specs.List.{All}
-use Rattle.offer_model.specs.declared.node.Mark.{Mark}
-use Rattle.offer_model.specs.Assortments.{sum_below}
-use Rattle.offer_model.specs.Problems.{ProblemData, product_count}
-use Rattle.offer_model.specs.Nodes.{mark_at, is_in}
-use Rattle.segment_bound.specs.declared.order.Ranked.{Ranked}
-use Rattle.segment_bound.specs.Orders.{IsOrder}
-use Rattle.segment_bound.specs.Tangents.{most_offered, room_at}
 use Rattle.segment_bound.specs.Kept.{IsListed}
 use Rattle.segment_bound.proofs.OrderLemmas.{length-order, order_listed}
-use Rattle.segment_bound.proofs.TangentValueLemmas.{slopes_small, sums_small, products_small, tangent_is}
+use Rattle.segment_bound.proofs.TangentValueLemmas.{room_is, slopes_small, sums_small, products_small, tangent_is}
 use Rattle.segment_bound.proofs.tangent.tangent.Goals as goal
-
--- What the cap leaves room for.
-room_is : (r cap : ℕ) (p : ProblemData) (node : List Mark) (order : List Ranked) → IsOrder p order → length node ≡ length order → cap ≡ most_offered p
-    → r ≡ cap - sum_below (length node) (λ i. cond (is_in (mark_at node i)) 1 0) → r ≡ room_at p node
-room_is r cap p node order o long e h =
-    let n : length node ≡ product_count p = long ∙ length-order p order o in
-    h ∙ (ap (λ t. t - sum_below (length node) (λ i. cond (is_in (mark_at node i)) 1 0)) e ∙ ap (λ t. most_offered p - sum_below t (λ i. cond (is_in (mark_at node i)) 1 0)) n)
 
 pub heights-requires-clause-small : goal.heights-requires-clause-small
 heights-requires-clause-small c = slopes_small c.args.p.now c.args.order.now c.args.segments.now.items c.args.node.now c.args.sums.now c.find_slopes.new.slopes c.requires.fits c.requires.kept c.find_slopes.ensures.slopes

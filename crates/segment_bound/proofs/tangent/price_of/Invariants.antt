@@ -1,6 +1,6 @@
 use Rattle.std.proofs.Common.{◌≡◌}
 use Rattle.segment_bound.specs.Slopes.{gains_of, costs_of}
-use Rattle.segment_bound.proofs.tangent.raise.Given as goal
+use Rattle.segment_bound.proofs.tangent.price_of.Given as goal
 
 abbrev pub invariant-loop-k : goal.invariant-loop-k
 invariant-loop-k l = record {

@@ -5,8 +5,8 @@ use Rattle.segment_bound.specs.Kept.{listed_segment}
 use Rattle.segment_bound.specs.Slopes.{slope_at, parts_of, gains_of, costs_of}
 use Rattle.segment_bound.proofs.LinearLemmas.{sum_next, within}
 use Rattle.segment_bound.proofs.SlopeLemmas.{gains_most, costs_most, share_small, product_small, product_is}
-use Rattle.segment_bound.proofs.tangent.raise.Goals.{After-from-parts, After-from, After-from-in-loop-k}
-use Rattle.segment_bound.proofs.tangent.raise.Goals as goal
+use Rattle.segment_bound.proofs.tangent.price_of.Goals.{After-from-parts, After-from, After-from-in-loop-k}
+use Rattle.segment_bound.proofs.tangent.price_of.Goals as goal
 
 pub overflow_mul-slope-in-loop-k : goal.overflow_mul-slope-in-loop-k
 overflow_mul-slope-in-loop-k c =
@@ -57,9 +57,14 @@ loop-k-preserved c =
           (product_is c.from-parts.result c.from-in-loop-k.result (parts_of c.args.segments.now.items c.args.slopes.now c.args.q c.loop-k.k) (slope_at c.args.slopes.now c.loop-k.k).units part c.from-in-loop-k.ensures);
     }
 
-pub returns-clause-bound : goal.returns-clause-bound
-returns-clause-bound c =
+pub returns-clause-most_gains : goal.returns-clause-most_gains
+returns-clause-most_gains c =
     let m = gains_most c.args.segments.now.items c.args.slopes.now c.args.q c.loop-k.k c.requires.small c.requires.parts c.requires.margin (omega arith) in
     let e : c.loop-k.gains ≡ gains_of c.args.segments.now.items c.args.slopes.now c.args.q c.loop-k.k = c.loop-k.invariant.gains in
-    let s = c.saturating_sub.ensures in
-    omega (arith, m, e, s)
+    omega (arith, m, e)
+
+pub returns-clause-most_costs : goal.returns-clause-most_costs
+returns-clause-most_costs c =
+    let m = costs_most c.args.segments.now.items c.args.slopes.now c.args.q c.loop-k.k c.requires.small c.requires.parts (omega arith) in
+    let e : c.loop-k.costs ≡ costs_of c.args.segments.now.items c.args.slopes.now c.args.q c.loop-k.k = c.loop-k.invariant.costs in
+    omega (arith, m, e)
