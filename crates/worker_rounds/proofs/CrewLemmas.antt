@@ -1,6 +1,6 @@
 -- A round of a crew, and the nodes given after it: what the crew keeps, and what falls.
 use Rattle.std.proofs.Common.{◌≡◌, ◌⊎◌, ℕ, ◌+◌, ◌<◌, ◌≤◌, Bool, List, [], ◌∷◌, ◌++◌, length, refl, sym, ap, ◌∙◌, subst, inl, inr, ⊎_elim, arith}
-use Rattle.std.specs.Prelude.{Option, None}
+use Rattle.std.specs.Prelude.{Option, Some}
 use Rattle.offer_model.specs.Nodes.{Completes}
 use Rattle.tree_search.specs.Goals.{Rules, IsFeasibleFor}
 use Rattle.tree_search.specs.Tasks.{tasks_of, task_of}
@@ -167,18 +167,19 @@ module _ {T : Type 0} where
     pub fresh_crew : (ws : List (Worker T)) → Each (IsMember rules g desk) ws → Each HasNoClaims ws → IsCrew rules g desk ws
     fresh_crew ws f n = record { each = f; covered = λ y a k l i c. absurd (nothing_claimed k ws n i) }
 
-    -- A worker with an empty walker and a place that is new.
-    pub fresh_member : (w : Worker T) (n : ℕ) → w.goal ≡ g → BelongsTo w.place desk → w.place.view.told ≡ 0 → w.walker ≡ record { stack = []; best = None; products = n } → n ≡ (rules g).products
+    -- A worker with no nodes, an assortment at hand and a place that told at most its value.
+    pub fresh_member : (w : Worker T) (x : List Bool) → w.goal ≡ g → BelongsTo w.place desk → IsFeasibleFor (rules g) x
+        → w.walker ≡ record { stack = []; best = Some x; products = length x } → IsBacked (rules g) w.place.view.told w.walker.best
         → IsMember rules g desk w
-    fresh_member w n same of told is long = record {
+    fresh_member w x same of feasible is told = record {
       goal = same;
       place = of;
-      products = ap (λ (x : Walk). x.products) is ∙ long;
-      feasible = subst (λ (x : Walk). IsFeasibleBest (rules g) x.best) (sym is) tt;
-      told = subst (λ (x : Walk). IsBacked (rules g) w.place.view.told x.best) (sym is) told;
+      products = ap (λ (v : Walk). v.products) is ∙ feasible.0;
+      feasible = subst (λ (v : Walk). IsFeasibleBest (rules g) v.best) (sym is) feasible;
+      told = told;
       sound = subst IsSound (sym is) (record {
         nodes = λ k d l. absurd (omega arith);
-        best = λ x e. cc;
+        best = λ y e. (let same : x ≡ y = cc in sym (ap (λ (l : List Bool). length l) same));
         few = omega arith;
       });
     }

@@ -62,7 +62,7 @@ fn take_node<T: Goal>(desk: &Desk, place: &mut Place, walker: &mut Walker, goal:
 }
 
 /// Tells the value of the walker's best, if it has one.
-fn tell_best<T: Goal>(desk: &Desk, place: &mut Place, walker: &Walker, goal: &T)
+pub fn tell_best<T: Goal>(desk: &Desk, place: &mut Place, walker: &Walker, goal: &T)
     requires desk { BelongsTo place.old desk.now }
     requires products { walker.now.products ≡ (T.rules goal.now).products }
     requires answers { AnswersInRange (T.rules goal.now) }

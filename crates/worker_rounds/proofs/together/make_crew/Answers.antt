@@ -1,7 +1,9 @@
 use Rattle.std.proofs.Common.{rules, ap, subst, sym, ◌≡◌, ◌∙◌, [], List, arith}
+use Rattle.tree_search.specs.Goals.{IsFeasibleFor}
 use Rattle.shared_best.specs.declared.view.View.{View}
 use Rattle.shared_best.specs.Views.{after_split}
 use Rattle.worker_rounds.specs.declared.crew.Worker.{Worker}
+use Rattle.worker_rounds.specs.Rounds.{IsBacked}
 use Rattle.worker_rounds.specs.Crews.{Each, IsMember, HasNoClaims, shares}
 use Rattle.worker_rounds.proofs.ListLemmas.{each_push}
 use Rattle.worker_rounds.proofs.CrewLemmas.{shares_push, fresh_member}
@@ -11,15 +13,15 @@ pub loop-number-preserved : goal.loop-number-preserved
 loop-number-preserved g c =
     let i = c.loop-number.invariant in
     let W = Worker g.row.T.Denot in
-    let w : W = record { number = c.loop-number.number; place = c.split-place.result; walker = c.in_ok-walker.walker; goal = c.in_ok-goal.goal } in
+    let w : W = record { number = c.loop-number.number; place = c.tell_best.new.place; walker = c.in_ok-walker.walker; goal = c.in_ok-goal.goal } in
     let F : W → Type 0 = IsMember g.T.Goal.rules c.args.goal.now c.args.desk.now in
     let left : c.split-place.new.place.view.share ≡ (after_split c.loop-number.place.view).share = ap (λ (v : View). v.share) c.split-place.ensures.left in
-    let right : c.split-place.result.view.share ≡ 1 = ap (λ (v : View). v.share) c.split-place.ensures.right in
-    let told : c.split-place.result.view.told ≡ 0 = ap (λ (v : View). v.told) c.split-place.ensures.right in
-    let claims : c.split-place.result.view.claims ≡ [] = ap (λ (v : View). v.claims) c.split-place.ensures.right in
+    let right : c.tell_best.new.place.view.share ≡ 1 = c.tell_best.ensures.share ∙ ap (λ (v : View). v.share) c.split-place.ensures.right in
+    let claims : c.tell_best.new.place.view.claims ≡ [] = c.tell_best.ensures.claims ∙ ap (λ (v : View). v.claims) c.split-place.ensures.right in
     let same : c.in_ok-goal.goal ≡ c.args.goal.now = search rules in
-    let long : c.products.result ≡ (g.T.Goal.rules c.args.goal.now).products = c.products.ensures ∙ ap (λ x. (g.T.Goal.rules x).products) same in
-    let fit : F w = fresh_member g.T.Goal.rules c.args.goal.now c.args.desk.now w c.products.result same (search rules) told (search rules) long in
+    let feasible = subst (IsFeasibleFor (g.T.Goal.rules c.args.goal.now)) (sym c.in_ok-copy.ensures) c.requires.first in
+    let told = subst (λ x. IsBacked (g.T.Goal.rules x) c.tell_best.new.place.view.told c.in_ok-walker.walker.best) same c.tell_best.ensures.told in
+    let fit : F w = fresh_member g.T.Goal.rules c.args.goal.now c.args.desk.now w _ same (search rules) feasible c.in_ok-walker.ensures told in
     record {
       of = search rules;
       claims = search rules;

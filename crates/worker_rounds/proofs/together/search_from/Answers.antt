@@ -7,7 +7,7 @@ use Rattle.worker_rounds.specs.Crews.{Each, AnyOf, HasProducts, IsWorkerBusy, Is
 use Rattle.worker_rounds.proofs.MeasureLemmas.{weights}
 use Rattle.worker_rounds.proofs.CrewLemmas.{fresh_crew, crew_ready, crew_products, round_crew, round_less, round_shares, round_length}
 use Rattle.worker_rounds.proofs.GatherLemmas.{top_of, lent}
-use Rattle.worker_rounds.proofs.together.search_together.Goals as goal
+use Rattle.worker_rounds.proofs.together.search_from.Goals as goal
 
 pub loop-desk-init : goal.loop-desk-init
 loop-desk-init g c = record {

@@ -2,7 +2,7 @@ use Rattle.std.proofs.Common.{◌≡◌, ◌≤◌}
 use Rattle.std.specs.Prelude.{vec_len}
 use Rattle.worker_rounds.specs.Crews.{IsCrew, shares}
 use Rattle.worker_rounds.proofs.MeasureLemmas.{weights}
-use Rattle.worker_rounds.proofs.together.search_together.Given as goal
+use Rattle.worker_rounds.proofs.together.search_from.Given as goal
 
 abbrev pub invariant-loop-desk : goal.invariant-loop-desk
 invariant-loop-desk g l = record {
