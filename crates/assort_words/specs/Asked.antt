@@ -8,17 +8,17 @@ use Rattle.offer_model.specs.declared.products.ModelName.TheVariants.{Logit}
 use Rattle.offer_model.specs.declared.ranges.TheConstants.{MOST_AMOUNT, MOST_SCALE}
 use Rattle.assort_words.specs.declared.keys.TheConstants.{KEY_SLOTS}
 use Rattle.assort_words.specs.declared.usage.Command.{Command}
-use Rattle.assort_words.specs.declared.usage.Command.TheVariants.{Solve, Check}
+use Rattle.assort_words.specs.declared.usage.Command.TheVariants.{Solve, Check, Eval, Trial}
 use Rattle.assort_words.specs.declared.usage.Key.{Key}
-use Rattle.assort_words.specs.declared.usage.Key.TheVariants.{Model, Products, Limits, Segments, Arcs, NoneWeight, Away, Unit, Scale, Proof, Workers, NoKey}
+use Rattle.assort_words.specs.declared.usage.Key.TheVariants.{Model, Products, Limits, Segments, Arcs, NoneWeight, Away, Unit, Scale, Proof, Workers, Offer, Seed, Count, Save, NoKey}
 use Rattle.assort_words.specs.declared.usage.UsageFault.{UsageFault}
 use Rattle.assort_words.specs.declared.usage.UsageCode.{UsageCode}
 use Rattle.assort_words.specs.declared.usage.UsageCode.TheVariants.{NoCommand, UnknownCommand, UnknownOption, RepeatedOption, MissingValue, Nested, BadValue, MissingOption, UnusedOption, ProofIsInput}
 use Rattle.assort_words.specs.declared.keys.Domain.{Domain}
-use Rattle.assort_words.specs.declared.keys.Domain.TheVariants.{Models, Files, Numbers}
+use Rattle.assort_words.specs.declared.keys.Domain.TheVariants.{Models, Files, Assortments, Numbers}
 use Rattle.assort_words.specs.declared.keys.Group.{Group}
 use Rattle.assort_words.specs.declared.keys.Group.TheVariants as G
-use Rattle.assort_words.specs.Keys.{keys, index_of, text_of, domain_of, use_of, model_of, number_within, is_in_domain, is_among, is_known, is_needed, is_used}
+use Rattle.assort_words.specs.Keys.{keys, index_of, text_of, domain_of, use_of, model_of, number_within, most_seed, is_in_domain, is_asked_of, is_known, is_needed, is_used}
 
 -- A command, and for each key the word that is given, or none.
 pub record RequestData : Type 0 where
@@ -39,9 +39,9 @@ bare_request c = record { command = c; words = replicate KEY_SLOTS None }
 abbrev pub is_given : RequestData → Key → Bool
 is_given r k = is_some (word_of r k)
 
--- Each word that is given is one of its key's values.
+-- Each word that is given is one of its key's values in the command.
 abbrev pub IsInDomains : RequestData → Type 0
-IsInDomains r = (k : Key) → IfSome (word_of r k) (λ word. IsTrue (is_in_domain (domain_of k) word))
+IsInDomains r = (k : Key) → IfSome (word_of r k) (λ word. IsTrue (is_in_domain (domain_of k r.command) word))
 
 -- ---- What each key asks for.
 
@@ -78,19 +78,39 @@ asked_proof r = word_of r Proof
 abbrev pub asked_workers : RequestData → Option ℕ
 asked_workers r = option_and_then (number_within 1 64) (word_of r Workers)
 
--- The model that is asked for is one of the group's.
+abbrev pub asked_offer : RequestData → Option (List ℕ)
+asked_offer r = word_of r Offer
+
+abbrev pub asked_seed : RequestData → Option ℕ
+asked_seed r = option_and_then (number_within 0 most_seed) (word_of r Seed)
+
+abbrev pub asked_count : RequestData → Option ℕ
+asked_count r = option_and_then (number_within 0 256) (word_of r Count)
+
+abbrev pub asked_save : RequestData → Option (List ℕ)
+asked_save r = word_of r Save
+
+-- A model is asked for, and it is one of the group's.
 abbrev pub IsAskedOf : Group → RequestData → Type 0
-IsAskedOf g r = IfSome (asked_model r) (λ m. IsTrue (is_among g m))
+IsAskedOf g r = IsTrue (is_asked_of g (asked_model r))
+
+-- The command reads a problem, which has a model and products: all do but the one that makes its problem.
+abbrev pub has_model : Command → Bool
+has_model c = is_known (use_of Model c)
 
 -- All that the command and the model need is given, and nothing that they don't use.
 pub record IsComplete (r : RequestData) : Type 0 where
-  pub model : IsSome (asked_model r)
-  pub products : IsSome (asked_products r)
+  pub model : IsTrue (has_model r.command) → IsSome (asked_model r)
+  pub products : IsTrue (has_model r.command) → IsSome (asked_products r)
   pub segments : IsAskedOf G.Mixed r → IsSome (asked_segments r)
   pub arcs : IsAskedOf G.Chain r → IsSome (asked_arcs r)
   pub none : IsAskedOf G.Ratio r → IsSome (asked_none r)
   pub scale : IsAskedOf G.Chain r → IsSome (asked_scale r)
   pub proof : r.command ≡ Check → IsSome (asked_proof r)
+  pub limited : r.command ≡ Eval → IsAskedOf G.Limited r
+  pub offer : r.command ≡ Eval → IsSome (asked_offer r)
+  pub seed : r.command ≡ Trial → IsSome (asked_seed r)
+  pub count : r.command ≡ Trial → IsSome (asked_count r)
   pub used : (k : Key) → k ≢ NoKey → IsSome (word_of r k) → IsTrue (is_used (use_of k r.command) (unwrap_or (asked_model r) Logit))
 
 -- ---- Words, in pairs of a key and its word.
@@ -99,7 +119,9 @@ abbrev pub command_of : List ℕ → Option Command
 command_of word =
     if bytes_eq word (codes "solve") then Some Solve
     else (if bytes_eq word (codes "check") then Some Check
-    else None)
+    else (if bytes_eq word (codes "eval") then Some Eval
+    else (if bytes_eq word (codes "trial") then Some Trial
+    else None)))
 
 -- The key of the command that a word names.
 abbrev pub key_of : Command → List ℕ → Option Key
@@ -115,8 +137,9 @@ refused_for code k = record { code = code; word = 0; key = k }
 
 -- Whether nested logit is asked for, in the place of a model.
 abbrev pub asks_nested : Domain → List ℕ → Bool
-asks_nested Models word = bytes_eq word (codes "nested")
+asks_nested (Models g) word = bytes_eq word (codes "nested")
 asks_nested Files word = false
+asks_nested Assortments word = false
 asks_nested (Numbers low high) word = false
 
 -- The key of the word at place p, which is new.
@@ -130,8 +153,8 @@ new_key r p word = known (key_of r.command word)
 -- The request with the word at place p for the key.
 abbrev pub new_word : RequestData → Key → ℕ → List ℕ → Result RequestData UsageFault
 new_word r k p word =
-    if asks_nested (domain_of k) word then Err (refused_at Nested p)
-    else (if is_in_domain (domain_of k) word then Ok (with_word r k word)
+    if asks_nested (domain_of k r.command) word then Err (refused_at Nested p)
+    else (if is_in_domain (domain_of k r.command) word then Ok (with_word r k word)
     else Err (refused_at BadValue p))
 
 -- What comes of the first step, and then of the second.

@@ -1,14 +1,14 @@
-//! The table of keys: for each its text, its domain, and its use by command and model.
+//! The table of keys: for each its text, its use by command and model, and its domain.
 ghost use Rattle.std.specs.Prelude.{◌≡◌, ◌≤◌, length, IsTrue, IsSome};
-ghost use Rattle.assort_words.specs.declared.usage.Command.TheVariants.{Solve, Check};
-ghost use Rattle.assort_words.specs.Keys.{index_of, text_of, domain_of, use_of, is_in_domain, is_among, is_known, is_needed, is_used};
+ghost use Rattle.assort_words.specs.declared.usage.Command.TheVariants.{Solve, Check, Eval, Trial};
+ghost use Rattle.assort_words.specs.Keys.{index_of, text_of, domain_of, use_of, models_of, model_of, is_in_domain, is_among, is_asked_of, is_known, is_needed, is_used};
 
 use crate::usage::{Command, Key};
-use crate::values::{read_model, read_within};
+use crate::values::{is_assortment, read_model, read_within};
 use offer_model::{MOST_AMOUNT, MOST_SCALE, ModelName};
 
 /// The keys, in the order in which they are looked at.
-pub(crate) const KEYS: [Key; 11] = [
+pub(crate) const KEYS: [Key; 15] = [
     Key::Model,
     Key::Products,
     Key::Limits,
@@ -20,21 +20,30 @@ pub(crate) const KEYS: [Key; 11] = [
     Key::Scale,
     Key::Proof,
     Key::Workers,
+    Key::Offer,
+    Key::Seed,
+    Key::Count,
+    Key::Save,
 ];
 
 /// The greatest number that `--workers` takes, as the formats say.
 pub const MOST_WORKERS: u64 = 64;
 
+/// The greatest number that `--count` takes, the most products of a trial, as the formats say.
+pub const MOST_TRIAL: u64 = 256;
+
 /// A slot for each `Key`, with `NoKey`, whose slot stays empty.
-pub const KEY_SLOTS: usize = 12;
+pub const KEY_SLOTS: usize = 16;
 
 /// The values that a key may have.
 #[derive(Clone, Copy)]
 pub enum Domain {
-    /// A model's name.
-    Models,
+    /// The name of a model of the group.
+    Models(Group),
     /// A file's name: any text that isn't empty.
     Files,
+    /// `-` for no products, or a character `0` or `1` for each product.
+    Assortments,
     /// The numbers from the first to the second.
     Numbers(u64, u64),
 }
@@ -42,6 +51,7 @@ pub enum Domain {
 /// The models that a key goes with.
 #[derive(Clone, Copy)]
 pub enum Group {
+    All,
     /// Logit and attraction, whose revenue is one ratio.
     Ratio,
     /// Mixed logit, whose customers differ by segment.
@@ -64,13 +74,14 @@ pub enum Use {
     MustWith(Group),
 }
 
-/// A line of the table: the key as it is written, its values, and what each command makes of it.
+/// A line of the table: the key as it is written, and what each command makes of it.
 #[derive(Clone, Copy)]
 struct KeyRow {
     text: &'static str,
-    domain: Domain,
     solve: Use,
     check: Use,
+    eval: Use,
+    trial: Use,
 }
 
 impl Key {
@@ -78,39 +89,42 @@ impl Key {
     fn row(self) -> KeyRow
         ensures text { result.text.now ≡ text_of self }
         ensures short { length result.text.now ≤ 10 }
-        ensures domain { result.domain ≡ domain_of self }
         ensures solve { result.solve ≡ use_of self Solve }
         ensures check { result.check ≡ use_of self Check }
+        ensures eval { result.eval ≡ use_of self Eval }
+        ensures trial { result.trial ≡ use_of self Trial }
     {
-        let amount = Domain::Numbers(1, MOST_AMOUNT);
-        let threads = Domain::Numbers(1, MOST_WORKERS);
-        let away = Domain::Numbers(0, MOST_AMOUNT);
-        let parts = Domain::Numbers(1, MOST_SCALE);
+        let (no, may, must) = (Use::Never, Use::May, Use::Must);
         let for_ratio = Use::MustWith(Group::Ratio);
         let for_mixed = Use::MustWith(Group::Mixed);
         let with_mixed = Use::MayWith(Group::Mixed);
         let for_chain = Use::MustWith(Group::Chain);
         let with_chain = Use::MayWith(Group::Chain);
         let with_limits = Use::MayWith(Group::Limited);
-        let (text, domain, solve, check) = match self {
-            Key::Model => ("--model", Domain::Models, Use::Must, Use::Must),
-            Key::Products => ("--products", Domain::Files, Use::Must, Use::Must),
-            Key::Limits => ("--limits", Domain::Files, with_limits, with_limits),
-            Key::Segments => ("--segments", Domain::Files, for_mixed, for_mixed),
-            Key::Arcs => ("--arcs", Domain::Files, for_chain, for_chain),
-            Key::NoneWeight => ("--none", amount, for_ratio, for_ratio),
-            Key::Away => ("--away", away, with_chain, with_chain),
-            Key::Unit => ("--unit", amount, with_mixed, with_mixed),
-            Key::Scale => ("--scale", parts, for_chain, for_chain),
-            Key::Proof => ("--proof", Domain::Files, Use::May, Use::Must),
-            Key::Workers => ("--workers", threads, with_mixed, Use::Never),
-            Key::NoKey => ("", Domain::Files, Use::Never, Use::Never),
+        let (text, solve, check, eval, trial) = match self {
+            Key::Model => ("--model", must, must, must, no),
+            Key::Products => ("--products", must, must, must, no),
+            Key::Limits => ("--limits", with_limits, with_limits, with_limits, no),
+            Key::Segments => ("--segments", for_mixed, for_mixed, for_mixed, no),
+            Key::Arcs => ("--arcs", for_chain, for_chain, no, no),
+            Key::NoneWeight => ("--none", for_ratio, for_ratio, for_ratio, no),
+            Key::Away => ("--away", with_chain, with_chain, no, no),
+            Key::Unit => ("--unit", with_mixed, with_mixed, with_mixed, no),
+            Key::Scale => ("--scale", for_chain, for_chain, no, no),
+            Key::Proof => ("--proof", may, must, no, no),
+            Key::Workers => ("--workers", with_mixed, no, no, may),
+            Key::Offer => ("--offer", no, no, must, no),
+            Key::Seed => ("--seed", no, no, no, must),
+            Key::Count => ("--count", no, no, no, must),
+            Key::Save => ("--save", no, no, no, may),
+            Key::NoKey => ("", no, no, no, no),
         };
         KeyRow {
             text,
-            domain,
             solve,
             check,
+            eval,
+            trial,
         }
     }
 
@@ -128,10 +142,22 @@ impl Key {
         self as usize
     }
 
-    pub(crate) fn domain(self) -> Domain
-        ensures { result ≡ domain_of self }
+    /// The values that the key may have in the command.
+    pub(crate) fn domain_in(self, command: Command) -> Domain
+        ensures { result ≡ domain_of self command }
     {
-        self.row().domain
+        match self {
+            Key::Model => Domain::Models(command.models()),
+            Key::Products | Key::Limits | Key::Segments | Key::Arcs => Domain::Files,
+            Key::NoneWeight | Key::Unit => Domain::Numbers(1, MOST_AMOUNT),
+            Key::Away => Domain::Numbers(0, MOST_AMOUNT),
+            Key::Scale => Domain::Numbers(1, MOST_SCALE),
+            Key::Workers => Domain::Numbers(1, MOST_WORKERS),
+            Key::Offer => Domain::Assortments,
+            Key::Seed => Domain::Numbers(0, u64::MAX),
+            Key::Count => Domain::Numbers(0, MOST_TRIAL),
+            Key::Proof | Key::Save | Key::NoKey => Domain::Files,
+        }
     }
 
     pub(crate) fn use_by(self, command: Command) -> Use
@@ -140,6 +166,20 @@ impl Key {
         match command {
             Command::Solve => self.row().solve,
             Command::Check => self.row().check,
+            Command::Eval => self.row().eval,
+            Command::Trial => self.row().trial,
+        }
+    }
+}
+
+impl Command {
+    /// The models that the command knows.
+    fn models(self) -> Group
+        ensures { result ≡ models_of self }
+    {
+        match self {
+            Command::Eval => Group::Limited,
+            Command::Solve | Command::Check | Command::Trial => Group::All,
         }
     }
 }
@@ -149,8 +189,9 @@ impl Domain {
         ensures { result ≡ is_in_domain self word.now }
     {
         match self {
-            Domain::Models => read_model(word).is_some(),
+            Domain::Models(group) => group.has_named(word),
             Domain::Files => !word.is_empty(),
+            Domain::Assortments => is_assortment(word),
             Domain::Numbers(low, high) => read_within(word, low, high).is_some(),
         }
     }
@@ -161,10 +202,21 @@ impl Group {
         ensures { result ≡ is_among self model }
     {
         match self {
+            Group::All => true,
             Group::Ratio => matches!(model, ModelName::Logit | ModelName::Attract),
             Group::Mixed => model == ModelName::Mixed,
             Group::Chain => model == ModelName::Chain,
             Group::Limited => model != ModelName::Chain,
+        }
+    }
+
+    /// Whether the word names a model of the group.
+    fn has_named(self, word: &str) -> bool
+        ensures { result ≡ is_asked_of self (model_of word.now) }
+    {
+        match read_model(word) {
+            None => false,
+            Some(model) => self.has(model),
         }
     }
 }

@@ -3,9 +3,10 @@ ghost use Rattle.std.specs.Prelude.{◌≡◌, ◌≤◌, IfSome, IsTrue};
 ghost use Rattle.std.specs.Option.{option_copied};
 ghost use Rattle.offer_model.specs.Validity.{IsPositiveAmount};
 ghost use Rattle.assort_words.specs.Keys.{domain_of, is_in_domain};
-ghost use Rattle.assort_words.specs.Asked.{IsInDomains, bare_request, word_of, with_word, is_given, asked_model, asked_products, asked_limits, asked_segments, asked_arcs, asked_none, asked_away, asked_unit, asked_scale, asked_proof, asked_workers};
+ghost use Rattle.assort_words.specs.Asked.{IsInDomains, bare_request, word_of, with_word, is_given, asked_model, asked_products, asked_limits, asked_segments, asked_arcs, asked_none, asked_away, asked_unit, asked_scale, asked_proof, asked_workers, asked_offer, asked_seed, asked_count, asked_save};
+ghost use Rattle.assort_words.specs.Offers.{is_assortment};
 
-use crate::keys::{KEY_SLOTS, MOST_WORKERS};
+use crate::keys::{KEY_SLOTS, MOST_TRIAL, MOST_WORKERS};
 use crate::usage::{Command, Key};
 use crate::values::{read_model, read_within};
 use offer_model::{MOST_AMOUNT, MOST_SCALE, ModelName};
@@ -57,7 +58,7 @@ impl<'a> Request<'a> {
 
     /// The request with one more word, which is one of the key's values.
     pub(crate) fn with_word(mut self, key: Key, word: &'a str) -> Request<'a>
-        requires { IsTrue (is_in_domain (domain_of key) word.now) }
+        requires { IsTrue (is_in_domain (domain_of key self.command) word.now) }
         ensures { result ≡ with_word self.entry key word.now }
     {
         self.words[key.index()] = Some(word);
@@ -70,7 +71,7 @@ impl<'a> Request<'a> {
         self.command
     }
 
-    /// `None` exactly where the key isn't given; so do the next ten.
+    /// `None` exactly where the key isn't given; so do the next fourteen.
     pub fn model(&self) -> Option<ModelName>
         ensures value { result ≡ asked_model self.now }
         ensures valid { IsInDomains self.now }
@@ -141,5 +142,31 @@ impl<'a> Request<'a> {
         ensures range { IfSome result (λ n. (1 ≤ n) × (n ≤ 64)) }
     {
         read_within(self.word(Key::Workers)?, 1, MOST_WORKERS)
+    }
+
+    pub fn offer(&self) -> Option<&'a str>
+        ensures value { option_copied result ≡ asked_offer self.now }
+        ensures valid { IfSome result (λ word. IsTrue (is_assortment word.now)) }
+    {
+        self.word(Key::Offer)
+    }
+
+    pub fn seed(&self) -> Option<u64>
+        ensures { result ≡ asked_seed self.now }
+    {
+        read_within(self.word(Key::Seed)?, 0, u64::MAX)
+    }
+
+    pub fn count(&self) -> Option<u64>
+        ensures value { result ≡ asked_count self.now }
+        ensures range { IfSome result (λ n. n ≤ 256) }
+    {
+        read_within(self.word(Key::Count)?, 0, MOST_TRIAL)
+    }
+
+    pub fn save(&self) -> Option<&'a str>
+        ensures { option_copied result ≡ asked_save self.now }
+    {
+        self.word(Key::Save)
     }
 }

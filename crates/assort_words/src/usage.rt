@@ -4,6 +4,10 @@
 pub enum Command {
     Solve,
     Check,
+    /// What a given assortment brings.
+    Eval,
+    /// A problem that is made from a seed, and solved.
+    Trial,
 }
 
 /// The keys of the command line, in the order in which a missing one is named.
@@ -25,6 +29,13 @@ pub enum Key {
     Proof,
     /// `--workers`, the number of threads that search.
     Workers,
+    /// `--offer`, the assortment that is evaluated.
+    Offer,
+    Seed,
+    /// `--count`, the number of products that are made.
+    Count,
+    /// `--save`, the file that the products are written to.
+    Save,
     /// A fault that is about no key has this one.
     NoKey,
 }

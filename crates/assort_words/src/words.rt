@@ -36,6 +36,12 @@ fn read_command(word: &str) -> Option<Command>
     if word == "check" {
         return Some(Command::Check);
     }
+    if word == "eval" {
+        return Some(Command::Eval);
+    }
+    if word == "trial" {
+        return Some(Command::Trial);
+    }
     None
 }
 
@@ -70,8 +76,8 @@ fn new_word<'a>(
 ) -> Result<Request<'a>, UsageFault>
     ensures { result ≡ new_word request.entry key p word.now }
 {
-    let domain = key.domain();
-    if matches!(domain, Domain::Models) && word == "nested" {
+    let domain = key.domain_in(request.command());
+    if matches!(domain, Domain::Models(_)) && word == "nested" {
         return Err(refused_at(UsageCode::Nested, p));
     }
     if !domain.has(word) {
