@@ -16,7 +16,8 @@ mod segments;
 
 pub use catalogue_rows::{
     ARRIVAL, ATTRACTION, CATEGORY, Catalogue, Code, FileName, GRADE, InputFault, LADDER, MARGIN,
-    MOST_NAME, MOST_TABLE, NAME, PRICE, SHADOW, SPACE, print_products, read_products,
+    MOST_NAME, MOST_TABLE, NAME, PRICE, SHADOW, SPACE, plain_catalogue, print_products,
+    read_products,
 };
 pub use limit_columns::{FIRST, KIND, NUMBER, SECOND};
 pub use limits::read_limits;

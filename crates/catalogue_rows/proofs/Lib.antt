@@ -6,4 +6,6 @@ pub mod FaultLemmas
 pub mod LentNameLemmas
 pub mod NameLemmas
 pub mod OutcomeLemmas
+pub mod PlainLemmas
 pub mod ProductLemmas
+pub mod WorkedCatalogueLemmas

@@ -9,3 +9,5 @@ pub mod ProductCells
 pub mod SeenNames
 pub mod PrintedProducts
 pub mod Places
+pub mod Plain
+pub mod WorkedCatalogues
