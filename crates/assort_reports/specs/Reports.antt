@@ -73,3 +73,7 @@ bound_lines lo up = codes "lower " ++ decimal lo ++ codes "\nupper " ++ decimal 
 -- The report of a chain's answer.
 abbrev pub chain_report : List RowData → StoppingData → List ℕ
 chain_report rows s = head_lines Chain (length rows) ++ offer_lines rows s.set ++ set_line s.set ++ bound_lines s.lo s.up
+
+-- The report of trial inputs: the seed and the number of products, then the report of what was found for them.
+abbrev pub trial_report : ℕ → ℕ → List ℕ → List ℕ
+trial_report seed count report = codes "trial " ++ decimal seed ++ codes " " ++ decimal count ++ codes "\n" ++ report

@@ -1,41 +1,13 @@
 //! The report of an assortment: model, offers, set and what it earns.
-ghost use Rattle.std.specs.Prelude.{◌≡◌, ◌++◌, ◌<◌, length, codes, decimal, OnOk, IfOk};
+ghost use Rattle.std.specs.Prelude.{◌≡◌, ◌++◌, length, codes, decimal, OnOk, IfOk};
 ghost use Rattle.offer_model.specs.Problems.{product_count};
-ghost use Rattle.offer_model.specs.Validity.{IsRatioModel};
-ghost use Rattle.assort_reports.specs.Reports.{model_text, word_text, head_lines, set_line, ratio_line, mixed_lines, value_lines, bound_lines, digit_of, offer_line, offer_line_if, offer_lines, problem_report, chain_report};
+ghost use Rattle.assort_reports.specs.Reports.{head_lines, bound_lines, offer_line, offer_line_if, offer_lines, problem_report, chain_report, trial_report};
 
+use crate::pieces::{model_text, put, put_number, put_set, put_value};
 use catalogue::Catalogue;
 use chain_values::ChainAnswer;
-use itoa::Buffer;
-use offer_model::{Assortment, Bytes, ModelName, NoMemory, Problem, mixed_value, revenue};
+use offer_model::{Assortment, Bytes, ModelName, NoMemory, Problem};
 use std::alloc::Global;
-
-/// Puts a piece last, and makes room for it first.
-fn put(text: &mut Bytes, piece: &[u8]) -> Result<(), NoMemory>
-    ensures { OnOk result (text.new.items ≡ text.old.items ++ piece.now) }
-{
-    text.reserve(piece.len())?;
-    text.push_slice(piece);
-    Ok(())
-}
-
-/// Puts a number last, in decimal.
-fn put_number(text: &mut Bytes, number: u128) -> Result<(), NoMemory>
-    ensures { OnOk result (text.new.items ≡ text.old.items ++ decimal number) }
-{
-    put(text, Buffer::new().format(number).as_bytes())
-}
-
-fn model_text(model: ModelName) -> &'static str
-    ensures { result.now ≡ model_text model }
-{
-    match model {
-        ModelName::Logit => "logit",
-        ModelName::Attract => "attract",
-        ModelName::Mixed => "mixed",
-        ModelName::Chain => "chain",
-    }
-}
 
 /// The model and how many products there are.
 fn put_head(text: &mut Bytes, model: ModelName, products: usize) -> Result<(), NoMemory>
@@ -46,69 +18,6 @@ fn put_head(text: &mut Bytes, model: ModelName, products: usize) -> Result<(), N
     put(text, b"\nproducts ")?;
     put_number(text, products as u128)?;
     put(text, b"\n")
-}
-
-fn digit(offered: bool) -> u8
-    ensures { result ≡ digit_of offered }
-{
-    if offered { b'1' } else { b'0' }
-}
-
-fn put_word(text: &mut Bytes, x: &Assortment) -> Result<(), NoMemory>
-    ensures { OnOk result (text.new.items ≡ text.old.items ++ word_text x.now) }
-{
-    if x.len() == 0 {
-        return put(text, b"-");
-    }
-    text.reserve(x.len())?;
-    for i in 0..x.len() {
-        text.push(digit(x.offers(i)));
-    }
-    Ok(())
-}
-
-fn put_set(text: &mut Bytes, x: &Assortment) -> Result<(), NoMemory>
-    ensures { OnOk result (text.new.items ≡ text.old.items ++ set_line x.now) }
-{
-    put(text, b"set ")?;
-    put_word(text, x)?;
-    put(text, b"\n")
-}
-
-fn put_ratio(text: &mut Bytes, p: &Problem, x: &Assortment) -> Result<(), NoMemory>
-    requires model { IsRatioModel p.now.model }
-    requires length { length x.now ≡ product_count p.now }
-    ensures { OnOk result (text.new.items ≡ text.old.items ++ ratio_line p.now x.now) }
-{
-    let earned = revenue(p, x);
-    put(text, b"value ")?;
-    put_number(text, earned.num)?;
-    put(text, b"/")?;
-    put_number(text, earned.den)?;
-    put(text, b"\n")
-}
-
-fn put_mixed(text: &mut Bytes, p: &Problem, x: &Assortment) -> Result<(), NoMemory>
-    requires { length x.now ≡ product_count p.now }
-    ensures { OnOk result (text.new.items ≡ text.old.items ++ mixed_lines p.now x.now) }
-{
-    put(text, b"value ")?;
-    put_number(text, mixed_value(p, x))?;
-    put(text, b"\nunit ")?;
-    put_number(text, u128::from(p.unit()))?;
-    put(text, b"\n")
-}
-
-/// What the assortment earns.
-fn put_value(text: &mut Bytes, p: &Problem, x: &Assortment) -> Result<(), NoMemory>
-    requires { length x.now ≡ product_count p.now }
-    ensures { OnOk result (text.new.items ≡ text.old.items ++ value_lines p.now x.now) }
-{
-    match p.model() {
-        ModelName::Logit | ModelName::Attract => put_ratio(text, p, x),
-        ModelName::Mixed => put_mixed(text, p, x),
-        ModelName::Chain => unreachable!(),
-    }
 }
 
 /// The two bounds of a chain's assortment.
@@ -179,5 +88,19 @@ pub fn report_chain(alloc: Global, c: &Catalogue, answer: &ChainAnswer) -> Resul
     put_offers(&mut text, c, &answer.set)?;
     put_set(&mut text, &answer.set)?;
     put_bounds(&mut text, answer.lo, answer.up)?;
+    Ok(text)
+}
+
+/// The report of trial inputs: a line of the seed and the number of products before the report of the assortment that was found.
+pub fn report_trial(alloc: Global, seed: u64, count: u64, report: &Bytes) -> Result<Bytes, NoMemory>
+    ensures { IfOk result (λ text. text.items ≡ trial_report seed count report.now.items) }
+{
+    let mut text = Bytes::new(alloc);
+    put(&mut text, b"trial ")?;
+    put_number(&mut text, u128::from(seed))?;
+    put(&mut text, b" ")?;
+    put_number(&mut text, u128::from(count))?;
+    put(&mut text, b"\n")?;
+    put(&mut text, report.as_slice())?;
     Ok(text)
 }

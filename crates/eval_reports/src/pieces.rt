@@ -1,30 +1,9 @@
-//! Pieces of a report: numbers, the model, the assortment and what it earns.
-ghost use Rattle.std.specs.Prelude.{◌≡◌, ◌++◌, length, codes, decimal, OnOk};
-ghost use Rattle.offer_model.specs.Problems.{product_count};
-ghost use Rattle.offer_model.specs.Validity.{IsRatioModel};
-ghost use Rattle.assort_reports.specs.Reports.{model_text, digit_of, word_text, set_line, ratio_line, mixed_lines, value_lines};
+//! Pieces of the report of a given assortment: fractions, and the line of the model.
+ghost use Rattle.std.specs.Prelude.{◌≡◌, ◌++◌, OnOk};
 ghost use Rattle.eval_reports.specs.EvalReports.{fraction_text, model_line};
 
-use itoa::Buffer;
-use offer_model::{
-    Assortment, Bytes, Fraction, ModelName, NoMemory, Problem, mixed_value, revenue,
-};
-
-/// Puts a piece last, and makes room for it first.
-pub(crate) fn put(text: &mut Bytes, piece: &[u8]) -> Result<(), NoMemory>
-    ensures { OnOk result (text.new.items ≡ text.old.items ++ piece.now) }
-{
-    text.reserve(piece.len())?;
-    text.push_slice(piece);
-    Ok(())
-}
-
-/// Puts a number last, in decimal.
-pub(crate) fn put_number(text: &mut Bytes, number: u128) -> Result<(), NoMemory>
-    ensures { OnOk result (text.new.items ≡ text.old.items ++ decimal number) }
-{
-    put(text, Buffer::new().format(number).as_bytes())
-}
+use assort_reports::{model_text, put, put_number};
+use offer_model::{Bytes, Fraction, ModelName, NoMemory};
 
 /// Puts a fraction last, and ends the line.
 pub(crate) fn put_fraction(text: &mut Bytes, f: Fraction) -> Result<(), NoMemory>
@@ -36,80 +15,10 @@ pub(crate) fn put_fraction(text: &mut Bytes, f: Fraction) -> Result<(), NoMemory
     put(text, b"\n")
 }
 
-fn model_text(model: ModelName) -> &'static str
-    ensures { result.now ≡ model_text model }
-{
-    match model {
-        ModelName::Logit => "logit",
-        ModelName::Attract => "attract",
-        ModelName::Mixed => "mixed",
-        ModelName::Chain => "chain",
-    }
-}
-
 pub(crate) fn put_model(text: &mut Bytes, model: ModelName) -> Result<(), NoMemory>
     ensures { OnOk result (text.new.items ≡ text.old.items ++ model_line model) }
 {
     put(text, b"model ")?;
     put(text, model_text(model).as_bytes())?;
     put(text, b"\n")
-}
-
-fn digit(offered: bool) -> u8
-    ensures { result ≡ digit_of offered }
-{
-    if offered { b'1' } else { b'0' }
-}
-
-fn put_word(text: &mut Bytes, x: &Assortment) -> Result<(), NoMemory>
-    ensures { OnOk result (text.new.items ≡ text.old.items ++ word_text x.now) }
-{
-    if x.len() == 0 {
-        return put(text, b"-");
-    }
-    text.reserve(x.len())?;
-    for i in 0..x.len() {
-        text.push(digit(x.offers(i)));
-    }
-    Ok(())
-}
-
-pub(crate) fn put_set(text: &mut Bytes, x: &Assortment) -> Result<(), NoMemory>
-    ensures { OnOk result (text.new.items ≡ text.old.items ++ set_line x.now) }
-{
-    put(text, b"set ")?;
-    put_word(text, x)?;
-    put(text, b"\n")
-}
-
-fn put_ratio(text: &mut Bytes, p: &Problem, x: &Assortment) -> Result<(), NoMemory>
-    requires model { IsRatioModel p.now.model }
-    requires length { length x.now ≡ product_count p.now }
-    ensures { OnOk result (text.new.items ≡ text.old.items ++ ratio_line p.now x.now) }
-{
-    put(text, b"value ")?;
-    put_fraction(text, revenue(p, x))
-}
-
-fn put_mixed(text: &mut Bytes, p: &Problem, x: &Assortment) -> Result<(), NoMemory>
-    requires { length x.now ≡ product_count p.now }
-    ensures { OnOk result (text.new.items ≡ text.old.items ++ mixed_lines p.now x.now) }
-{
-    put(text, b"value ")?;
-    put_number(text, mixed_value(p, x))?;
-    put(text, b"\nunit ")?;
-    put_number(text, u128::from(p.unit()))?;
-    put(text, b"\n")
-}
-
-/// What the assortment earns.
-pub(crate) fn put_value(text: &mut Bytes, p: &Problem, x: &Assortment) -> Result<(), NoMemory>
-    requires { length x.now ≡ product_count p.now }
-    ensures { OnOk result (text.new.items ≡ text.old.items ++ value_lines p.now x.now) }
-{
-    match p.model() {
-        ModelName::Logit | ModelName::Attract => put_ratio(text, p, x),
-        ModelName::Mixed => put_mixed(text, p, x),
-        ModelName::Chain => unreachable!(),
-    }
 }

@@ -7,7 +7,8 @@ ghost use Rattle.offer_model.specs.Validity.{IsRatioModel};
 ghost use Rattle.eval_reports.specs.EvalReports.{HoldsSegments, fraction_text, verdict_line, chance_line, chance_line_if, chance_lines_from, choice_lines, segment_line, gain_line, segment_lines, all_segment_lines, choices_under, eval_report, IsEvalReport};
 
 use crate::chances::{chance, leave};
-use crate::pieces::{put, put_fraction, put_model, put_number, put_set, put_value};
+use crate::pieces::{put_fraction, put_model};
+use assort_reports::{put, put_number, put_set, put_value};
 use catalogue::{Catalogue, SegmentTable};
 use limit_rules::first_broken;
 use offer_model::{Assortment, Bytes, Fraction, ModelName, NoMemory, Problem, gain, weight};

@@ -1,6 +1,6 @@
 use Rattle.std.proofs.Common.{◌≡◌, ◌+◌, ◌≤◌, ◌++◌, length, take, map}
 use Rattle.assort_reports.specs.Reports.{digit_of}
-use Rattle.assort_reports.proofs.report.put_word.Given as goal
+use Rattle.assort_reports.proofs.pieces.put_word.Given as goal
 
 abbrev pub invariant-loop-i : goal.invariant-loop-i
 invariant-loop-i l = record {
