@@ -11,20 +11,30 @@ use Rattle.offer_io.specs.Causes.{Rose}
 use Rattle.offer_io.specs.Stores.{StoreView, Passes}
 use Rattle.assort_words.specs.Asked.{RequestData}
 use Rattle.assort_core.specs.declared.stop.Stop.{Stop}
-use Rattle.assort_core.specs.declared.stop.Stop.TheVariants.{Unread, Faulty, UnwrittenProof, NoMemory}
+use Rattle.assort_core.specs.declared.stop.Stop.TheVariants.{Unread, Faulty, Unwritten, NoMemory}
 use Rattle.assort_core.specs.Lines.{fault_line}
 use Rattle.assort_core.specs.Stages.{InputsData, no_inputs, Stage, stages, with_part}
-use Rattle.assort_core.specs.Judged.{Files, given_by, judged, GivesBefore}
+use Rattle.assort_core.specs.Judged.{Files, given_by, offered_by, offer_given, judged, GivesBefore}
 use Rattle.assort_core.specs.Deeds.{answer, refusal}
 use Rattle.assort_core.specs.Outcomes.{IsAnswerTo}
 use Rattle.assort_core.specs.Runs.{CannotRead, FilesStand}
 use Rattle.assort_core.specs.Stops.{WhyStopped, WhyUnloaded, stop_by}
 use Rattle.assort_core.proofs.StageLemmas.{unasked_given, loaded_given, large_given, next_given, fault_given}
 
--- A fault among the files is the answer.
-pub faulty_answer : (r : RequestData) (file : Files) (f : FileName) (row : ℕ) (code : Code) → judged r file ≡ Some (Err (Fault f row code))
+-- What all files give is what is judged, where no assortment is offered that has another length.
+pub all_given : (r : RequestData) (file : Files) (i : InputsData) → given_by (stages r) no_inputs file ≡ Some (Ok i)
+    → offer_given (offered_by r.command r) i ≡ Some (Ok i) → judged r file ≡ Some (Ok i)
+all_given r file i files offer = rw (files, offer) refl
+
+-- A fault that is judged is the answer.
+pub judged_answer : (r : RequestData) (file : Files) (f : FileName) (row : ℕ) (code : Code) → judged r file ≡ Some (Err (Fault f row code))
     → IsAnswerTo r file (refusal 3 (fault_line f row code))
-faulty_answer r file f row code e = rw e refl
+judged_answer r file f row code e = rw e refl
+
+-- A fault among the files is.
+faulty_answer : (r : RequestData) (file : Files) (f : FileName) (row : ℕ) (code : Code) → given_by (stages r) no_inputs file ≡ Some (Err (Fault f row code))
+    → IsAnswerTo r file (refusal 3 (fault_line f row code))
+faulty_answer r file f row code e = judged_answer r file f row code (rw e refl)
 
 -- Why the file of stage k isn't loaded is why there is no report.
 pub stage_unloaded : (stop : Stop) (k : ℕ) (s : Stage) (r : RequestData) (old new : StoreView) (name : List ℕ)
@@ -43,7 +53,7 @@ stage_unloaded (Faulty file row code) k s r old new name at named before why = �
     let there = before told in
     rw (why.0, why.1, why.2) (faulty_answer r old.file s.file 0 _
     (fault_given (stages r) k s no_inputs there.0 (Fault s.file 0 _) old.file at there.1 (large_given s there.0 old.file name large.0 named large.1 large.2)))
-stage_unloaded UnwrittenProof k s r old new name at named before why = absurd why
+stage_unloaded (Unwritten file) k s r old new name at named before why = absurd why
 stage_unloaded NoMemory k s r old new name at named before why = tt
 
 -- A fault of the bytes of stage k is why there is no report.
@@ -121,7 +131,7 @@ later_stop (Unread file) r old mid new passes why = record {
 }
 later_stop (Faulty file row code) r old mid new passes why = λ told.
     subst (λ (files : Files). IsAnswerTo r files (refusal 3 (fault_line file row code))) (same_files old mid passes told) (why (rw passes.stays.tells told))
-later_stop UnwrittenProof r old mid new passes why = (
+later_stop (Unwritten file) r old mid new passes why = (
   record {
     asked = why.0.asked;
     cause = rose_later old.faults mid.faults new.faults passes.later why.0.cause;

@@ -1,8 +1,8 @@
 -- What a command leaves of the files after other files were read.
-use Rattle.std.proofs.Common.{◌≡◌, ◌∙◌, arith, subst, ℕ, List, Some, Ok, IsTrue, inl, inr, ◌⊎◌}
+use Rattle.std.proofs.Common.{◌≡◌, ◌∙◌, arith, refl, subst, ℕ, List, Some, Ok, IsTrue, inl, inr, ◌⊎◌}
 use Rattle.offer_io.specs.Stores.{StoreView, Passes}
 use Rattle.assort_core.specs.declared.stop.Stop.{Stop}
-use Rattle.assort_words.specs.declared.usage.Command.TheVariants.{Check}
+use Rattle.assort_words.specs.declared.usage.Command.TheVariants.{Check, Eval}
 use Rattle.assort_words.specs.Asked.{RequestData}
 use Rattle.assort_core.specs.Stages.{InputsData}
 use Rattle.assort_core.specs.Judged.{Files, judged, Gives}
@@ -10,6 +10,7 @@ use Rattle.assort_core.specs.Runs.{IsOutputPart, Endures}
 use Rattle.assort_core.specs.Stops.{LeavesWhole, LeavesPart}
 use Rattle.assort_core.proofs.InputLemmas.{files_stand, same_files}
 use Rattle.assort_core.proofs.CheckLemmas.{check_output, check_sealed}
+use Rattle.assort_core.proofs.EvalLemmas.{eval_output, eval_sealed}
 
 passes_endures : (old new : StoreView) → Passes old new → Endures old new
 passes_endures old new passes = record { later = passes.later; stays = passes.stays }
@@ -23,12 +24,30 @@ passes_part r old new stop passes = record {
   endures = passes_endures old new passes;
 }
 
+-- Where nothing was done, all are as they were.
+pub untouched_part : (r : RequestData) (store : StoreView) (stop : Stop) → LeavesPart r store store stop
+untouched_part r store stop = record {
+  others = λ told other free. refl;
+  part = λ told name asks. inl refl;
+  kept = λ three told other. refl;
+  endures = record { later = omega arith; stays = record { tells = refl; steady = refl; held = refl } };
+}
+
 -- `check` asks for no output.
 pub check_whole : (r : RequestData) (old new : StoreView) → r.command ≡ Check → Passes old new → LeavesWhole r old new
 check_whole r old new check passes = record {
   others = λ told other free. files_stand old new passes told other;
   proof = check_output r old new check;
   sealed = check_sealed r new check;
+  endures = passes_endures old new passes;
+}
+
+-- Nor does `eval`.
+pub eval_whole : (r : RequestData) (old new : StoreView) → r.command ≡ Eval → Passes old new → LeavesWhole r old new
+eval_whole r old new eval passes = record {
+  others = λ told other free. files_stand old new passes told other;
+  proof = eval_output r old new eval;
+  sealed = eval_sealed r new eval;
   endures = passes_endures old new passes;
 }
 

@@ -6,6 +6,10 @@ pub mod InputLemmas
 pub mod MixedLemmas
 pub mod SubjectLemmas
 pub mod SolveLemmas
+pub mod PieceLemmas
 pub mod CheckLemmas
 pub mod LeavingLemmas
 pub mod RunLemmas
+pub mod OutputLemmas
+pub mod EvalLemmas
+pub mod TrialLemmas

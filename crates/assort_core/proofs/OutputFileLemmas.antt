@@ -3,7 +3,19 @@ use Rattle.std.proofs.Common.{◌≡◌, ◌∙◌, sym, ap, arith, ℕ, List, [
 use Rattle.std.specs.Result.{is_err}
 use Rattle.std.proofs.lemmas.List.{take_all}
 use Rattle.offer_io.specs.Stores.{StoreView, Creates, Seals, Grows, Extends}
-use Rattle.assort_core.specs.OutputFiles.{HoldsPart}
+use Rattle.offer_io.specs.Stores as S
+use Rattle.offer_io.proofs.CallerLemmas.{extends_whole, extends_part}
+use Rattle.assort_core.specs.OutputFiles.{Appends, AppendsPart, HoldsPart}
+
+-- A text that was appended.
+pub appended : {T E : Type 0} (old : StoreView) (piece text : List ℕ) (r : Result T E) (t : T) (new : StoreView) → piece ≡ text → r ≡ Ok t
+    → S.Appends old piece r new → Appends (λ written. written ≡ text) old new
+appended old piece text r t new same is appends = (piece, same, extends_whole old piece t new (rw is at appends))
+
+-- A part of one.
+pub appended_part : {T E : Type 0} (old : StoreView) (piece text : List ℕ) (r : Result T E) (e : E) (new : StoreView) → piece ≡ text → r ≡ Err e
+    → S.Appends old piece r new → AppendsPart (λ written. written ≡ text) old new
+appended_part old piece text r e new same is appends = (piece, same, extends_part old piece e new (rw is at appends))
 
 -- a file that was made empty has grown by these bytes
 grown_from_none : (made wrote : StoreView) (name bytes : List ℕ) → made.file name ≡ Some [] → made.output ≡ name

@@ -1,6 +1,8 @@
 -- What a run does, from what its parts do.
-use Rattle.std.proofs.Common.{◌≡◌, ◌∙◌, sym, refl, ap, arith, ℕ, ◌<◌, List, [], ◌++◌, length, Some, None, Result, Ok, Err, IsTrue, inl, inr}
+use Rattle.std.proofs.Common.{◌≡◌, ◌∙◌, sym, refl, ap, arith, ℕ, ◌<◌, List, [], ◌++◌, length, Option, Some, None, Result, Ok, Err, IsTrue, inl, inr}
 use Rattle.std.proofs.lemmas.List.{append-nil, take_all}
+use Rattle.limit_rules.specs.Broken.{IsFirstBroken}
+use Rattle.offer_model.specs.Limits.{IsFeasible}
 use Rattle.offer_io.specs.Causes.{Rose}
 use Rattle.offer_io.specs.Stores.{StoreView}
 use Rattle.offer_io.specs.Sinks.{SinkView, Writes}
@@ -9,19 +11,20 @@ use Rattle.catalogue_rows.specs.declared.faults.InputFault.TheVariants as fault
 use Rattle.proof_lines.proofs.AcceptedIsBest.{accepted_is_best}
 use Rattle.proof_lines.proofs.AcceptedIsBracketed.{accepted_is_bracketed}
 use Rattle.assort_core.specs.declared.stop.Stop.{Stop}
-use Rattle.assort_core.specs.declared.stop.Stop.TheVariants.{Unread, Faulty, UnwrittenProof, NoMemory}
+use Rattle.assort_core.specs.declared.stop.Stop.TheVariants.{Unread, Faulty, Unwritten, NoMemory}
 use Rattle.assort_words.specs.declared.usage.Command.{Command}
-use Rattle.assort_words.specs.declared.usage.Command.TheVariants.{Solve, Check}
+use Rattle.assort_words.specs.declared.usage.Command.TheVariants.{Solve, Check, Eval, Trial}
 use Rattle.assort_words.specs.declared.usage.UsageFault.{UsageFault}
 use Rattle.assort_words.specs.Asked.{RequestData, asked_of}
 use Rattle.assort_core.specs.Lines.{usage_line, unwritten_line}
 use Rattle.assort_core.specs.declared.subject.Subject.{Subject}
 use Rattle.assort_core.specs.declared.subject.Subject.TheVariants as S
-use Rattle.assort_core.specs.Stages.{InputsData}
+use Rattle.assort_core.specs.Stages.{InputsData, asked_problem, offered}
 use Rattle.assort_core.specs.Subjects.{asked_subject}
 use Rattle.assort_core.specs.Certificates.{certificate_for}
 use Rattle.assort_core.specs.Judged.{Files, Given, judged}
 use Rattle.assort_core.specs.Deeds.{Outcome, answer, refusal}
+use Rattle.assort_core.specs.EvalOutcomes.{status_for}
 use Rattle.assort_core.specs.Outcomes.{IsOutcome, IsAnswerTo, IsAnswerFrom, deed_of}
 use Rattle.assort_core.specs.Runs.{Says, Prints, FailsToPrint, Performs, StoreFails, OutFails, IsAnswerable, HoldsInputs, ClaimHolds, OutputStands, OutputIsSealed, OutputMayStand}
 use Rattle.assort_core.specs.Stops.{WhyStopped, status_of, stop_line}
@@ -96,7 +99,7 @@ pub performs_stop : (stop : Stop) (words : List (List ℕ)) (store store' : Stor
     → status_of stop < 4 → IsTrue store.tells → WhyStopped r store store' stop → Says err (stop_line stop) err'
     → Performs words store (status_of stop) out out err err'
 performs_stop (Unread file) words store store' r out err err' asked small told why says = absurd (omega arith)
-performs_stop UnwrittenProof words store store' r out err err' asked small told why says = absurd (omega arith)
+performs_stop (Unwritten file) words store store' r out err err' asked small told why says = absurd (omega arith)
 performs_stop NoMemory words store store' r out err err' asked small told why says = absurd (omega arith)
 performs_stop (Faulty file row code) words store store' r out err err' asked small told why says = stopped_three words store r _ out err err' asked (why told) says
 
@@ -104,7 +107,7 @@ performs_stop (Faulty file row code) words store store' r out err err' asked sma
 pub store_fails : (stop : Stop) (r : RequestData) (store store' : StoreView) (out err err' : SinkView) → status_of stop ≡ 4
     → WhyStopped r store store' stop → OutputMayStand r store store' → Says err (stop_line stop) err' → StoreFails r store store' out out err err'
 store_fails (Unread file) r store store' out err err' four why may says = record { why = inl (file, why, says); proof = may; silent = refl }
-store_fails UnwrittenProof r store store' out err err' four why may says = record { why = inr (why.0, rw why.1 says); proof = may; silent = refl }
+store_fails (Unwritten file) r store store' out err err' four why may says = record { why = inr (why.0, rw why.1 says); proof = may; silent = refl }
 store_fails (Faulty file row code) r store store' out err err' four why may says = absurd (omega arith)
 store_fails NoMemory r store store' out err err' four why may says = absurd (omega arith)
 
@@ -113,7 +116,7 @@ pub steady_store : (stop : Stop) (r : RequestData) (store store' : StoreView) �
     → IsTrue store.steady → HoldsInputs r store → ⊥
 steady_store (Unread file) r store store' four why steady holds =
     why.fails.2.unheld steady (holds why.k why.stage why.fails.0 why.stage_is why.fails.1)
-steady_store UnwrittenProof r store store' four why steady holds = why.0.unsteady steady
+steady_store (Unwritten file) r store store' four why steady holds = why.0.unsteady steady
 steady_store (Faulty file row code) r store store' four why steady holds = absurd (omega arith)
 steady_store NoMemory r store store' four why steady holds = absurd (omega arith)
 
@@ -121,22 +124,28 @@ steady_store NoMemory r store store' four why steady holds = absurd (omega arith
 pub below_four : (stop : Stop) → status_of stop < 4 → status_of stop ≡ 3
 below_four (Faulty file row code) small = refl
 below_four (Unread file) small = absurd (omega arith)
-below_four UnwrittenProof small = absurd (omega arith)
+below_four (Unwritten file) small = absurd (omega arith)
 below_four NoMemory small = absurd (omega arith)
 
 -- the cause of a store's failure
 pub store_rose : (stop : Stop) (r : RequestData) (store store' : StoreView) → status_of stop ≡ 4 → WhyStopped r store store' stop
     → Rose store.faults store'.faults
 store_rose (Unread file) r store store' four why = why.fails.2.cause
-store_rose UnwrittenProof r store store' four why = why.0.cause
+store_rose (Unwritten file) r store store' four why = why.0.cause
 store_rose (Faulty file row code) r store store' four why = absurd (omega arith)
 store_rose NoMemory r store store' four why = absurd (omega arith)
+
+status_below_two : (broken : Option ℕ) → status_for broken < 2
+status_below_two None = omega arith
+status_below_two (Some k) = omega arith
 
 -- an answerable request isn't refused
 done_below_two : (c : Command) (r : RequestData) (i : InputsData) (o : Outcome) → (deed_of c r).IsDone i o → o.status < 2
 done_below_two Solve r i o done = rw done.2 (omega arith)
 done_below_two Check r i o (inl h) = rw h.1 (omega arith)
 done_below_two Check r i o (inr h) = rw h.1 (omega arith)
+done_below_two Eval r i o done = rw done.2 (status_below_two done.0)
+done_below_two Trial r i o done = rw done.2 (omega arith)
 
 pub answer_below_two : (r : RequestData) (store : StoreView) (o : Outcome) → IsAnswerable r store → IsAnswerTo r store.file o → o.status < 2
 answer_below_two r store o can answers = done_below_two r.command r can.given.0 o (rw can.given.1 at answers)
@@ -144,7 +153,7 @@ answer_below_two r store o can answers = done_below_two r.command r can.given.0 
 pub stopped_five : (stop : Stop) (r : RequestData) (store store' : StoreView) → WhyStopped r store store' stop → IsAnswerable r store
     → (Rose store.faults store'.faults → ⊥) → status_of stop ≡ 5
 stopped_five (Unread file) r store store' why can calm = absurd (calm why.fails.2.cause)
-stopped_five UnwrittenProof r store store' why can calm = absurd (calm why.0.cause)
+stopped_five (Unwritten file) r store store' why can calm = absurd (calm why.0.cause)
 stopped_five (Faulty file row code) r store store' why can calm = absurd (omega (arith, answer_below_two r store (refusal 3 _) can (why can.tells)))
 stopped_five NoMemory r store store' why can calm = refl
 
@@ -158,6 +167,12 @@ done_claims : (c : Command) (r : RequestData) (i : InputsData) (report : List �
 done_claims Solve r i report done = tt
 done_claims Check r i report (inl h) = claimed (asked_subject r i) i.proof h.0
 done_claims Check r i report (inr h) = let n : 0 ≡ 1 = ap (λ (o : Outcome). o.status) h.1 in absurd (omega (arith, n))
+done_claims Eval r i report done = unbroken done.0 done.1 (ap (λ (o : Outcome). o.status) done.2)
+  where
+    unbroken : (broken : Option ℕ) → IsFirstBroken (asked_problem r i) (offered r) broken → 0 ≡ status_for broken → IsFeasible (asked_problem r i) (offered r)
+    unbroken None feasible e = feasible
+    unbroken (Some k) first e = absurd (omega (arith, e))
+done_claims Trial r i report done = tt
 
 pub claim_holds : (r : RequestData) (store : StoreView) (report : List ℕ) → IsAnswerTo r store.file (answer 0 report) → ClaimHolds r store
 claim_holds r store report answers = by_given (judged r store.file) refl answers

@@ -1,11 +1,14 @@
 -- What the files of a request give, or the first fault among them: the stages, one after the other. Own.
-use Rattle.std.specs.Prelude.{◌≡◌, ℕ, List, [], ◌∷◌, length, take, Option, Some, None, option_map, Result, Ok, Err, nat_le, if◌then◌else◌}
-use Rattle.catalogue_rows.specs.declared.faults.Code.TheVariants.{TooLarge}
+use Rattle.std.specs.Prelude.{◌≡◌, ℕ, Bool, List, [], ◌∷◌, length, take, Option, Some, None, option_map, Result, Ok, Err, nat_eq, nat_le, if◌then◌else◌}
+use Rattle.catalogue_rows.specs.declared.faults.Code.TheVariants.{TooLarge, WrongLength}
+use Rattle.catalogue_rows.specs.declared.faults.FileName.TheVariants.{Offer}
 use Rattle.catalogue_rows.specs.declared.faults.InputFault.{InputFault}
 use Rattle.catalogue_rows.specs.declared.faults.InputFault.TheVariants.{Fault}
 use Rattle.offer_io.specs.Stores.{StoreView}
+use Rattle.assort_words.specs.declared.usage.Command.{Command}
+use Rattle.assort_words.specs.declared.usage.Command.TheVariants.{Solve, Check, Eval, Trial}
 use Rattle.assort_words.specs.Asked.{RequestData}
-use Rattle.assort_core.specs.Stages.{InputsData, no_inputs, Stage, stages}
+use Rattle.assort_core.specs.Stages.{InputsData, no_inputs, Stage, stages, offered}
 
 -- The content of each file, none where it isn't there.
 abbrev pub Files : Type 0
@@ -38,9 +41,21 @@ abbrev pub given_by : List Stage → InputsData → Files → Given
 given_by [] i file = Some (Ok i)
 given_by (s ∷ later) i file = and_given (stage_given s i file) (λ j. given_by later j file)
 
--- What a request's files give, in the order in which they are read.
+-- The assortment that a command judges, where it judges one.
+abbrev pub offered_by : Command → RequestData → Option (List Bool)
+offered_by Solve r = None
+offered_by Check r = None
+offered_by Eval r = Some (offered r)
+offered_by Trial r = None
+
+-- An assortment that is judged is as long as the catalogue.
+abbrev pub offer_given : Option (List Bool) → InputsData → Given
+offer_given None i = Some (Ok i)
+offer_given (Some x) i = if nat_eq (length x) (length i.rows) then Some (Ok i) else Some (Err (Fault Offer 0 WrongLength))
+
+-- What a request's files give, in the order in which they are read, where then the assortment that it offers is no fault.
 abbrev pub judged : RequestData → Files → Given
-judged r file = given_by (stages r) no_inputs file
+judged r file = and_given (given_by (stages r) no_inputs file) (offer_given (offered_by r.command r))
 
 -- The files of the first k stages are told and have no fault: they give this.
 abbrev pub GivesBefore : ℕ → RequestData → StoreView → InputsData → Type 0

@@ -7,7 +7,11 @@ pub mod Certificates
 pub mod Deeds
 pub mod SolveOutcomes
 pub mod CheckOutcomes
+pub mod EvalOutcomes
+pub mod TrialOutcomes
+pub mod Verdicts
 pub mod Outcomes
 pub mod Runs
 pub mod Stops
 pub mod OutputFiles
+pub mod Outputs

@@ -12,6 +12,8 @@ use Rattle.catalogue_rows.specs.ProductTables.{product_columns}
 use Rattle.catalogue.specs.LimitTables.{limit_columns}
 use Rattle.catalogue.specs.SegmentTables.{segment_columns}
 use Rattle.arc_tables.specs.ArcTables.{arc_columns}
+use Rattle.assort_core.specs.declared.stop.OutputName.{OutputName}
+use Rattle.assort_core.specs.declared.stop.OutputName.TheVariants as OutputName
 
 -- What is wrong with the words, without the place.
 abbrev pub cause_text : UsageCode → List ℕ
@@ -102,8 +104,9 @@ fault_line file row code = codes "assort: " ++ file_text file ++ row_text row co
 abbrev pub unread_line : FileName → List ℕ
 unread_line file = codes "assort: cannot read " ++ file_text file ++ codes "\n"
 
-abbrev pub unwritten_proof_line : List ℕ
-unwritten_proof_line = codes "assort: cannot write proof\n"
+abbrev pub unwritten_file_line : OutputName → List ℕ
+unwritten_file_line OutputName.Proof = codes "assort: cannot write proof\n"
+unwritten_file_line OutputName.Catalogue = codes "assort: cannot write catalogue\n"
 
 abbrev pub unwritten_line : List ℕ
 unwritten_line = codes "assort: cannot write output\n"

@@ -2,19 +2,23 @@
 use Rattle.std.specs.Prelude.{◌≡◌, ℕ, List, Some, None, Ok, Err, MatchResult}
 use Rattle.catalogue_rows.specs.declared.faults.InputFault.TheVariants.{Fault, NoMemory}
 use Rattle.assort_words.specs.declared.usage.Command.{Command}
-use Rattle.assort_words.specs.declared.usage.Command.TheVariants.{Solve, Check}
+use Rattle.assort_words.specs.declared.usage.Command.TheVariants.{Solve, Check, Eval, Trial}
 use Rattle.assort_words.specs.Asked.{RequestData, asked_of}
 use Rattle.assort_core.specs.Stages.{InputsData}
 use Rattle.assort_core.specs.Judged.{Files, Given, judged}
 use Rattle.assort_core.specs.Deeds.{Outcome, refusal, Output, Deed}
 use Rattle.assort_core.specs.SolveOutcomes.{solve_deed}
 use Rattle.assort_core.specs.CheckOutcomes.{check_deed}
+use Rattle.assort_core.specs.EvalOutcomes.{eval_deed}
+use Rattle.assort_core.specs.TrialOutcomes.{trial_deed}
 use Rattle.assort_core.specs.Lines.{usage_line, fault_line}
 
 -- What each command does. A further command is a further line.
 abbrev pub deed_of : Command → RequestData → Deed
 deed_of Solve r = solve_deed r
 deed_of Check r = check_deed r
+deed_of Eval r = eval_deed r
+deed_of Trial r = trial_deed r
 
 -- What comes of a request's command over what its files give.
 abbrev pub IsDone : RequestData → InputsData → Outcome → Type 0

@@ -5,7 +5,8 @@ use Rattle.offer_model.specs.Best.{IsBest}
 use Rattle.offer_model.specs.Chains.{place_count}
 use Rattle.offer_model.specs.Claims.{IsBracketed}
 use Rattle.offer_model.specs.Stopping.{IsStopping}
-use Rattle.std.specs.Prelude.{length}
+use Rattle.std.specs.Prelude.{List, length}
+use Rattle.catalogue_rows.specs.Rows.{RowData}
 use Rattle.assort_core.specs.declared.optimum.Method.{Method}
 use Rattle.assort_core.specs.declared.subject.Subject.{Subject}
 use Rattle.assort_core.specs.declared.subject.Subject.TheVariants as S
@@ -21,6 +22,11 @@ HasRows (S.Chain rows c) = place_count c ≡ length rows
 abbrev pub subject_of : Solved → Subject
 subject_of (Best rows p best method) = S.Problem rows p
 subject_of (Bounds rows c stopping) = S.Chain rows c
+
+-- Its catalogue.
+abbrev pub rows_of : Solved → List RowData
+rows_of (Best rows p best method) = rows
+rows_of (Bounds rows c stopping) = rows
 
 -- The assortment is the best, and the method is one for its problem; or the chain's set, vectors and bounds are its own.
 abbrev pub HoldsBy : (Method → ProblemData → Type 0) → Solved → Type 0

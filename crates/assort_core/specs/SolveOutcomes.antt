@@ -15,7 +15,8 @@ use Rattle.assort_core.specs.Stages.{InputsData}
 use Rattle.assort_core.specs.Subjects.{asked_subject}
 use Rattle.assort_core.specs.Certificates.{certificate_of}
 use Rattle.assort_core.specs.Judged.{Gives}
-use Rattle.assort_core.specs.Lines.{unwritten_proof_line}
+use Rattle.assort_core.specs.declared.stop.OutputName.TheVariants as OutputName
+use Rattle.assort_core.specs.Lines.{unwritten_file_line}
 use Rattle.assort_core.specs.Deeds.{Outcome, answer, Deed}
 
 -- The report of the best assortment.
@@ -49,6 +50,6 @@ IsSolved r i o = (report : List ℕ) × IsReport (asked_subject r i) report × (
 abbrev pub solve_deed : RequestData → Deed
 solve_deed r = record {
   IsDone = IsSolved r;
-  output = record { name = asked_proof r; IsText = λ i text. (certificate_of r i).Written text; line = unwritten_proof_line };
+  output = record { name = asked_proof r; IsText = λ i text. (certificate_of r i).Written text; line = unwritten_file_line OutputName.Proof };
   IsClaimed = λ i. Unit {0};
 }

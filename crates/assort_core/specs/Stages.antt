@@ -1,6 +1,6 @@
 -- The files that a request reads, as stages in the order of work: each a file, its name, and how its bytes are judged over
 -- what the files before it gave. A further file is a further stage. Own.
-use Rattle.std.specs.Prelude.{◌≡◌, ℕ, List, [], ◌∷◌, ◌++◌, map, Option, None, unwrap_or, Result, Ok, Err}
+use Rattle.std.specs.Prelude.{◌≡◌, ℕ, List, [], ◌∷◌, ◌++◌, map, Bool, Option, None, option_map, unwrap_or, Result, Ok, Err}
 use Rattle.offer_model.specs.declared.products.Limit.{Limit}
 use Rattle.offer_model.specs.declared.products.ModelName.{ModelName}
 use Rattle.offer_model.specs.declared.products.ModelName.TheVariants.{Logit, Attract, Mixed, Chain}
@@ -19,8 +19,9 @@ use Rattle.catalogue.specs.SegmentTables.{NamedSegment, segments_outcome}
 use Rattle.catalogue.specs.CatalogueProblems.{FitSegments, problem_data_of}
 use Rattle.arc_tables.specs.ArcTables.{arcs_outcome, chain_data_of}
 use Rattle.assort_words.specs.declared.usage.Command.{Command}
-use Rattle.assort_words.specs.declared.usage.Command.TheVariants.{Solve, Check}
-use Rattle.assort_words.specs.Asked.{RequestData, asked_model, asked_products, asked_limits, asked_segments, asked_arcs, asked_none, asked_away, asked_unit, asked_scale, asked_proof}
+use Rattle.assort_words.specs.declared.usage.Command.TheVariants.{Solve, Check, Eval, Trial}
+use Rattle.assort_words.specs.Asked.{RequestData, asked_model, asked_products, asked_limits, asked_segments, asked_arcs, asked_none, asked_away, asked_unit, asked_scale, asked_proof, asked_offer, asked_seed, asked_count}
+use Rattle.assort_words.specs.Offers.{offered_of}
 
 -- What the files give: the catalogue's rows, the limits, the segments, the arcs, the text of a proof that is checked. A part
 -- whose file isn't asked for is empty.
@@ -73,6 +74,21 @@ away_of r = unwrap_or (asked_away r) 0
 abbrev pub scale_of : RequestData → ℕ
 scale_of r = unwrap_or (asked_scale r) 1
 
+-- The weight of buying nothing. It is given wherever the model has one for all customers.
+abbrev pub none_of : RequestData → ℕ
+none_of r = unwrap_or (asked_none r) 1
+
+-- The assortment that is offered, in the catalogue's order. It is given wherever one is judged.
+abbrev pub offered : RequestData → List Bool
+offered r = unwrap_or (option_map offered_of (asked_offer r)) []
+
+-- The seed and the number of products of trial inputs. They are given wherever such are made.
+abbrev pub seed_of : RequestData → ℕ
+seed_of r = unwrap_or (asked_seed r) 0
+
+abbrev pub count_of : RequestData → ℕ
+count_of r = unwrap_or (asked_count r) 0
+
 -- ---- The stages.
 
 -- The tables that a problem may have, in the order of work.
@@ -108,6 +124,8 @@ table_stage r file = record { file = file; name = table_name file r; most = most
 abbrev pub read_proof : Command → RequestData → Option (List ℕ)
 read_proof Solve r = None
 read_proof Check r = asked_proof r
+read_proof Eval r = None
+read_proof Trial r = None
 
 -- The most bytes of a proof that is checked.
 abbrev pub most_proof : ℕ
@@ -122,6 +140,13 @@ proof_stage r = record {
   outcome = λ i bytes. Ok (record i { proof = bytes });
 }
 
+-- No table is named.
+pub record NamesNoTable (r : RequestData) : Type 0 where
+  pub products : asked_products r ≡ None
+  pub limits : asked_limits r ≡ None
+  pub segments : asked_segments r ≡ None
+  pub arcs : asked_arcs r ≡ None
+
 -- The stages of a request, in the order of work.
 abbrev pub stages : RequestData → List Stage
 stages r = map (table_stage r) tables ++ proof_stage r ∷ []
@@ -130,7 +155,7 @@ stages r = map (table_stage r) tables ++ proof_stage r ∷ []
 
 -- The problem of a request over what its files give.
 abbrev pub asked_problem : RequestData → InputsData → ProblemData
-asked_problem r i = problem_data_of i.rows (model_asked r) (unwrap_or (asked_none r) 0) (unit_of r) i.segments i.limits
+asked_problem r i = problem_data_of i.rows (model_asked r) (none_of r) (unit_of r) i.segments i.limits
 
 -- The chain of a request over what its files give.
 abbrev pub asked_chain : RequestData → InputsData → ChainData

@@ -6,7 +6,9 @@ ghost use Rattle.assort_core.specs.Runs.{FilesStand};
 ghost use Rattle.assort_core.specs.Stops.{WhyStopped, LeavesWhole, LeavesPart};
 
 use crate::commands::check::check;
+use crate::commands::eval::eval;
 use crate::commands::solve::solve;
+use crate::commands::trial::trial;
 use crate::means::Means;
 use crate::stop::Stop;
 use crate::task::Task;
@@ -23,7 +25,7 @@ pub(crate) struct Answer {
 }
 
 /// What a task prints, or why there is nothing to print.
-#[tactic(auto, using(crate::proofs::InputLemmas::files_stand, crate::proofs::LeavingLemmas::check_whole, crate::proofs::LeavingLemmas::passes_part))]
+#[tactic(auto, using(crate::proofs::InputLemmas::files_stand, crate::proofs::LeavingLemmas::check_whole, crate::proofs::LeavingLemmas::eval_whole, crate::proofs::LeavingLemmas::passes_part))]
 pub(crate) fn answer_to<R: Threads + Sync, S: Store, G: Gate + Sync>(
     means: &Means<'_, R, G>,
     task: &Task<'_>,
@@ -42,5 +44,7 @@ pub(crate) fn answer_to<R: Threads + Sync, S: Store, G: Gate + Sync>(
     match task.command() {
         Command::Solve => solve(means, task, store),
         Command::Check => check(means, task, store),
+        Command::Eval => eval(means, task, store),
+        Command::Trial => trial(means, task, store),
     }
 }

@@ -30,10 +30,10 @@ pub(crate) const TABLES: [FileName; 3] = [FileName::Products, FileName::Limits, 
 
 /// What the tables of a problem give. A part whose table isn't named is empty.
 #[derive(Drop)]
-struct Tables {
-    catalogue: Catalogue,
+pub(crate) struct Tables {
+    pub(crate) catalogue: Catalogue,
     limits: Limits,
-    segments: SegmentTable,
+    pub(crate) segments: SegmentTable,
 }
 
 impl Model for Tables {
@@ -45,7 +45,7 @@ impl Model for Tables {
     ghost view = { λ t. record { rows = t.catalogue; limits = t.limits.items; segments = t.segments; arcs = []; proof = [] } };
 }
 
-/// The bytes of an input that isn't above its limit. Every input of every command is read by this call.
+/// The bytes of an input that isn't above its limit. Every table of every command is read by this call.
 #[tactic(auto, using(crate::proofs::InputLemmas::files_stand))]
 pub(crate) fn load_input<S: Store>(
     alloc: Global,
@@ -139,7 +139,11 @@ fn read_table<S: Store>(
 }
 
 /// What the tables of a request give, one after the other.
-fn read_tables<S: Store>(alloc: Global, task: &Task<'_>, store: &mut S) -> Result<Tables, Stop>
+pub(crate) fn read_tables<S: Store>(
+    alloc: Global,
+    task: &Task<'_>,
+    store: &mut S,
+) -> Result<Tables, Stop>
     ensures passes { Passes (S.view store.old) (S.view store.new) }
     ensures given { IfOk result (λ t. IsTrue (S.view store.old).tells → GivesBefore (length problem_tables) task.now (S.view store.old) t) }
     ensures fit { IfOk result (FitTogether task.now) }
@@ -156,7 +160,11 @@ fn read_tables<S: Store>(alloc: Global, task: &Task<'_>, store: &mut S) -> Resul
 }
 
 /// The problem that the tables make.
-fn problem_asked(alloc: Global, task: &Task<'_>, tables: &Tables) -> Result<Problem, NoMemory>
+pub(crate) fn problem_asked(
+    alloc: Global,
+    task: &Task<'_>,
+    tables: &Tables,
+) -> Result<Problem, NoMemory>
     requires model { model_asked task.now ≢ model.Chain }
     requires fit { FitTogether task.now tables.now }
     ensures { IfOk result (λ p. p ≡ asked_problem task.now tables.now) }

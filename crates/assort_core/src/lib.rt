@@ -9,6 +9,7 @@ mod lines;
 mod means;
 mod optimum;
 mod output_file;
+mod pieces;
 mod solved;
 mod stop;
 mod subject;

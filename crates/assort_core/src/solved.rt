@@ -1,13 +1,11 @@
 //! What is found for a subject, its report, and its certificate.
-ghost use Rattle.std.specs.Prelude.{◌≡◌, ◌≤◌, IfOk, OnOk, IsErrOf, IsTrue, length};
-ghost use Rattle.offer_model.specs.Chains.{place_count};
-ghost use Rattle.offer_model.specs.Problems.{product_count};
+ghost use Rattle.std.specs.Prelude.{◌≡◌, ◌≤◌, IfOk, OnOk, IsErrOf, IsTrue};
 ghost use Rattle.offer_io.specs.Causes.{Rose};
 ghost use Rattle.proof_write.specs.declared.faults.ProofFault.TheVariants as ProofFault;
 ghost use Rattle.assort_core.specs.declared.subject.Subject.TheVariants as subject;
 ghost use Rattle.assort_core.specs.Certificates.{certificate_for};
 ghost use Rattle.assort_core.specs.OutputFiles.{Appends, AppendsPart};
-ghost use Rattle.assort_core.specs.Solutions.{HasRows, subject_of};
+ghost use Rattle.assort_core.specs.Solutions.{HasRows, subject_of, rows_of};
 ghost use Rattle.assort_core.specs.SolveOutcomes.{IsReport};
 
 use crate::means::Means;
@@ -82,6 +80,15 @@ impl Solved {
                 solve_problem(means, workers, catalogue, problem)
             }
             Subject::Chain(catalogue, chain) => solve_bounds(means.alloc, catalogue, chain),
+        }
+    }
+
+    /// The catalogue.
+    pub(crate) fn catalogue(&self) -> &Catalogue
+        ensures { result.now ≡ rows_of self.now }
+    {
+        match self {
+            Solved::Best(catalogue, _, _, _) | Solved::Bounds(catalogue, _, _) => catalogue,
         }
     }
 

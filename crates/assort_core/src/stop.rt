@@ -2,6 +2,13 @@
 use catalogue::{Code, FileName, InputFault};
 use offer_model::NoMemory;
 
+/// A file that a command writes.
+#[derive(Clone, Copy, Debug, PartialEq, Eq)]
+pub(crate) enum OutputName {
+    Proof,
+    Catalogue,
+}
+
 /// Why there is no report.
 #[derive(Clone, Copy, Debug, PartialEq, Eq)]
 pub(crate) enum Stop {
@@ -9,7 +16,8 @@ pub(crate) enum Stop {
     Unread(FileName),
     /// A row of a file has a fault, or a file is too large.
     Faulty(FileName, usize, Code),
-    UnwrittenProof,
+    /// A file can't be written.
+    Unwritten(OutputName),
     NoMemory,
 }
 

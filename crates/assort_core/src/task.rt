@@ -1,11 +1,11 @@
 //! A request with all that its command needs.
 ghost use Rattle.std.specs.Prelude.{◌≡◌, ◌≢◌, ◌≤◌, Some, None, unwrap_or};
 ghost use Rattle.std.specs.Option.{option_copied};
-ghost use Rattle.offer_model.specs.Validity.{IsPositiveAmount, IsRatioModel};
+ghost use Rattle.offer_model.specs.Validity.{IsPositiveAmount};
 ghost use Rattle.offer_model.specs.declared.products.ModelName.TheVariants as name;
 ghost use Rattle.assort_words.specs.declared.usage.Command.TheVariants as command;
-ghost use Rattle.assort_words.specs.Asked.{asked_of, asked_products, asked_limits, asked_segments, asked_arcs, asked_none, asked_proof, asked_workers};
-ghost use Rattle.assort_core.specs.Stages.{model_asked, unit_of, away_of, scale_of, table_name};
+ghost use Rattle.assort_words.specs.Asked.{asked_of, asked_products, asked_limits, asked_segments, asked_arcs, asked_proof, asked_workers, asked_offer, asked_save};
+ghost use Rattle.assort_core.specs.Stages.{model_asked, none_of, unit_of, away_of, scale_of, seed_of, count_of, table_name, NamesNoTable};
 
 use assort_words::{Command, Request, UsageFault, read_words};
 use catalogue::FileName;
@@ -46,7 +46,7 @@ impl<'a> Task<'a> {
         ensures limits { model_asked self.now ≡ name.Chain → asked_limits self.now ≡ None }
         ensures segments { model_asked self.now ≡ name.Chain → asked_segments self.now ≡ None }
     {
-        self.request.model().unwrap()
+        self.request.model().unwrap_or(ModelName::Logit)
     }
 
     /// The name of a table, where the request gives one.
@@ -62,8 +62,9 @@ impl<'a> Task<'a> {
         }
     }
 
-    /// The name of the products file.
+    /// The name of the products file of a chain.
     pub(crate) fn products(&self) -> &'a str
+        requires { model_asked self.now ≡ name.Chain }
         ensures { asked_products self.now ≡ Some result.now }
     {
         self.request.products().unwrap()
@@ -93,12 +94,12 @@ impl<'a> Task<'a> {
         self.request.scale().unwrap_or(1)
     }
 
-    /// The weight of buying nothing, 0 under mixed logit.
+    /// The weight of buying nothing, 1 where none is given.
     pub(crate) fn none(&self) -> u64
-        ensures value { result ≡ unwrap_or (asked_none self.now) 0 }
-        ensures valid { IsRatioModel (model_asked self.now) → IsPositiveAmount result }
+        ensures value { result ≡ none_of self.now }
+        ensures valid { IsPositiveAmount result }
     {
-        self.request.none().unwrap_or(0)
+        self.request.none().unwrap_or(1)
     }
 
     /// The unit, 1 but under mixed logit.
@@ -133,6 +134,42 @@ impl<'a> Task<'a> {
         ensures { asked_proof self.now ≡ Some result.now }
     {
         self.request.proof().unwrap()
+    }
+
+    /// The word of the assortment that is judged.
+    pub(crate) fn offer(&self) -> &'a str
+        requires { self.now.command ≡ command.Eval }
+        ensures word { asked_offer self.now ≡ Some result.now }
+
+        // No chain is judged.
+        ensures known { model_asked self.now ≢ name.Chain }
+        ensures arcs { asked_arcs self.now ≡ None }
+    {
+        self.request.offer().unwrap()
+    }
+
+    /// The seed of trial inputs.
+    pub(crate) fn seed(&self) -> u64
+        ensures { result ≡ seed_of self.now }
+    {
+        self.request.seed().unwrap_or(0)
+    }
+
+    /// The number of products of trial inputs, which are read from no file.
+    pub(crate) fn count(&self) -> u64
+        requires { self.now.command ≡ command.Trial }
+        ensures value { result ≡ count_of self.now }
+        ensures range { result ≤ 256 }
+        ensures alone { NamesNoTable self.now }
+    {
+        self.request.count().unwrap_or(0)
+    }
+
+    /// The name of the catalogue that is saved, where one is asked for.
+    pub(crate) fn save(&self) -> Option<&'a str>
+        ensures { option_copied result ≡ asked_save self.now }
+    {
+        self.request.save()
     }
 }
 

@@ -10,7 +10,7 @@ use crate::answer::{Answer, answer_to};
 use crate::lines::fault_line::{fault_line, unread_line};
 use crate::lines::usage_line::usage_line;
 use crate::means::Means;
-use crate::stop::Stop;
+use crate::stop::{OutputName, Stop};
 use crate::task::read_task;
 use offer_io::{Gate, Sink, Store};
 use offer_model::Texts;
@@ -39,8 +39,12 @@ fn refuse<E: Sink>(err: &mut E, stop: Stop) -> u8
             say(err, fault_line(file, row, code).as_str().as_bytes());
             3
         }
-        Stop::UnwrittenProof => {
+        Stop::Unwritten(OutputName::Proof) => {
             say(err, b"assort: cannot write proof\n");
+            4
+        }
+        Stop::Unwritten(OutputName::Catalogue) => {
+            say(err, b"assort: cannot write catalogue\n");
             4
         }
         Stop::NoMemory => {
@@ -107,7 +111,8 @@ pub fn run<R: Threads + Sync, S: Store, O: Sink, E: Sink, G: Gate + Sync>(
         → (Rose (S.view store.old).faults (S.view store.new).faults → ⊥)
         → (Rose (O.view out.old).faults (O.view out.new).faults → ⊥) → (result < 2) ⊎ (result ≡ 5) }
 
-    // 0: what it claims is so; of `check`, that the proof's assortment is the best one.
+    // 0: what it claims is so; of `check`, that the proof's assortment is the best one, of `eval`, that what
+    // is offered keeps to the limits.
     ensures checked { result ≡ 0 → IsTrue (S.view store.old).tells
         → IfOk (asked_of words.now) (λ r. ClaimHolds r (S.view store.old)) }
 

@@ -1,8 +1,6 @@
 //! The command `check`: whether a text is a certificate for the problem of its files.
-ghost use Rattle.std.specs.Prelude.{◌≡◌, ◌<◌, IfOk, IfErr, IsTrue, ◌↔◌, if◌then◌else◌};
+ghost use Rattle.std.specs.Prelude.{◌≡◌, ◌<◌, IfOk, IfErr, IsTrue, if◌then◌else◌};
 ghost use Rattle.offer_io.specs.Stores.{Passes};
-ghost use Rattle.proof_lines.specs.Acceptance.{Accepts};
-ghost use Rattle.proof_check.specs.declared.checker.Verdict.TheVariants as said;
 ghost use Rattle.assort_words.specs.declared.usage.Command.TheVariants as command;
 ghost use Rattle.assort_core.specs.CheckOutcomes.{accepted_report, rejected_report};
 ghost use Rattle.assort_core.specs.Deeds.{answer};
@@ -10,11 +8,11 @@ ghost use Rattle.assort_core.specs.Outcomes.{IsAnswerTo};
 ghost use Rattle.assort_core.specs.Stops.{WhyStopped};
 
 use crate::answer::Answer;
-use crate::inputs::{load_input, read_subject};
+use crate::inputs::read_subject;
 use crate::means::Means;
+use crate::pieces::read_verdict;
 use crate::stop::Stop;
 use crate::task::Task;
-use catalogue::FileName;
 use offer_io::Store;
 use offer_model::{Bytes, NoMemory};
 use std::alloc::Global;
@@ -59,16 +57,9 @@ pub(crate) fn check<R, S: Store, G>(
         Err(stop) => return Err(stop),
         Ok(subject) => subject,
     };
-    let text = match load_input(
-        alloc,
-        store,
-        FileName::Proof,
-        task.checked_proof(),
-        MOST_PROOF,
-    ) {
-        Err(stop) => return Err(stop),
-        Ok(text) => text,
-    };
-    let accepted = subject.is_accepted(alloc, text.as_slice())?;
-    Ok(verdict(alloc, accepted)?)
+    let checker = subject.checker(alloc)?;
+    match read_verdict(store, task.checked_proof(), MOST_PROOF, checker) {
+        Err(stop) => Err(stop),
+        Ok(accepted) => Ok(verdict(alloc, accepted)?),
+    }
 }

@@ -1,5 +1,5 @@
 //! The command `solve`: what is found, its report, and its certificate where one is asked for.
-ghost use Rattle.std.specs.Prelude.{◌≡◌, ℕ, List, IfOk, IfErr, OnOk, IsTrue};
+ghost use Rattle.std.specs.Prelude.{◌≡◌, IfOk, IfErr, OnOk, IsTrue};
 ghost use Rattle.offer_io.specs.Stores.{Passes};
 ghost use Rattle.assort_words.specs.declared.usage.Command.TheVariants as command;
 ghost use Rattle.assort_core.specs.Deeds.{answer};
@@ -11,7 +11,7 @@ ghost use Rattle.assort_core.specs.Stops.{WhyStopped, LeavesWhole, LeavesPart};
 use crate::answer::Answer;
 use crate::inputs::read_subject;
 use crate::means::Means;
-use crate::output_file::write_proof;
+use crate::output_file::{Output, write_output};
 use crate::solved::{Found, Solved};
 use crate::stop::Stop;
 use crate::task::Task;
@@ -19,13 +19,6 @@ use offer_io::{Gate, Store};
 use offer_model::Bytes;
 use std::alloc::Global;
 use std::thread::Threads;
-
-fn done(report: Bytes) -> Answer
-    ensures status { result.status ≡ 0 }
-    ensures report { result.report ≡ report }
-{
-    Answer { status: 0, report }
-}
 
 /// What is found, and its report.
 #[derive(Drop)]
@@ -55,29 +48,6 @@ fn find_solution<R: Threads + Sync, S: Store, G: Gate + Sync>(
     Ok(Solution { solved, report })
 }
 
-/// Writes the proof where one is asked for.
-fn certify<S: Store>(
-    alloc: Global,
-    task: &Task<'_>,
-    solved: &mut Solved,
-    store: &mut S,
-) -> Result<(), Stop>
-    requires command { task.now.command ≡ command.Solve }
-    requires solution { (report : List ℕ) × IsSolution task.now (S.view store.old) (subject_of solved.old) report }
-    requires holds { ⟦<Solved as Found>⟧.holds solved.old }
-    ensures whole { OnOk result (LeavesWhole task.now (S.view store.old) (S.view store.new)) }
-    ensures part { IfErr result (LeavesPart task.now (S.view store.old) (S.view store.new)) }
-    ensures stopped { IfErr result (WhyStopped task.now (S.view store.old) (S.view store.new)) }
-{
-    let Some(name) = task.proof() else {
-        return Ok(());
-    };
-    match write_proof(alloc, solved, store, name) {
-        Err(stop) => Err(stop),
-        Ok(()) => Ok(()),
-    }
-}
-
 /// What `solve` prints, after the proof that is asked for was written.
 pub(crate) fn solve<R: Threads + Sync, S: Store, G: Gate + Sync>(
     means: &Means<'_, R, G>,
@@ -94,12 +64,13 @@ pub(crate) fn solve<R: Threads + Sync, S: Store, G: Gate + Sync>(
     ensures whole { OnOk result (LeavesWhole task.now (S.view store.old) (S.view store.new)) }
     ensures part { IfErr result (LeavesPart task.now (S.view store.old) (S.view store.new)) }
 {
-    let Solution { mut solved, report } = match find_solution(means, task, store) {
+    let Solution { solved, report } = match find_solution(means, task, store) {
         Err(stop) => return Err(stop),
         Ok(solution) => solution,
     };
-    match certify(means.alloc, task, &mut solved, store) {
+    let proof = Output::Proof(solved);
+    match write_output(means.alloc, task, task.proof(), proof, store) {
         Err(stop) => Err(stop),
-        Ok(()) => Ok(done(report)),
+        Ok(()) => Ok(Answer { status: 0, report }),
     }
 }
