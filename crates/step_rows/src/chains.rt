@@ -2,6 +2,7 @@
 ghost use Rattle.std.specs.Prelude.{◌≡◌, IfOk};
 ghost use Rattle.offer_model.specs.ChainValidity.{IsChain};
 
+use crate::pieces::{SIZES, verdict_by};
 use chain_values::solve_chain;
 use offer_model::{Arc, Chain, Items, NoMemory};
 use proof_check::{Checker, Verdict};
@@ -65,7 +66,7 @@ fn compare(rt: &impl Abort, alloc: Global, chain: &Chain, wanted: &Wanted) -> Re
     Ok(())
 }
 
-/// Compares a checker's verdict on a text.
+/// Compares what is said of a chain's certificate in pieces of each size with what is wanted.
 fn judge(
     rt: &impl Abort,
     alloc: Global,
@@ -73,9 +74,13 @@ fn judge(
     text: &[u8],
     wanted: Verdict,
 ) -> Result<(), NoMemory> {
-    let mut checker = Checker::for_chain(alloc, chain)?;
-    checker.feed(text);
-    assert!(rt; checker.finish() == wanted);
+    for size in SIZES {
+        let checker = Checker::for_chain(alloc, chain)?;
+        assert!(rt;
+            verdict_by(checker, text, size) == wanted,
+            "pieces of {size}"
+        );
+    }
     Ok(())
 }
 
