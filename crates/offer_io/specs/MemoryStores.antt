@@ -32,6 +32,10 @@ memory_view s = shelf_view s.files.items s.input s.output s.sealed s.faults
 abbrev pub store_plan : MemoryStore → CallPlan
 store_plan s = s.plan
 
+-- The most bytes that a read of a store in memory gives.
+abbrev pub store_most : MemoryStore → ℕ
+store_most s = s.most
+
 -- A store in memory without files.
 abbrev pub empty_view : StoreView
 empty_view = record {
@@ -47,9 +51,11 @@ empty_view = record {
   held = [];
 }
 
--- A call was counted: it took the next number, and the count of faults rose exactly where it failed.
+-- A call was counted: it took the next number, and the count of faults rose exactly where it failed. What reads give at most
+-- is as it was.
 pub record Counts {T E : Type 0} (old : MemoryStore) (result : Result T E) (new : MemoryStore) : Type 0 where
   pub plan : store_plan new ≡ plan_after (store_plan old)
+  pub most : store_most new ≡ store_most old
   pub faults : (memory_view new).faults ≡ count_after result (memory_view old).faults
 
 -- A file was put there, and all else is as it was. Of what is left of the open input nothing is said.

@@ -40,14 +40,16 @@ pub fn rest_at(files: &[Entry], at: usize, from: usize) -> &[u8]
     }
 }
 
-/// Puts what is left at the front of a piece, as much as fits.
-pub fn fill(left: &[u8], piece: &mut [u8]) -> usize
+/// Puts what is left at the front of a piece, as much as fits, and at most so many bytes.
+pub fn fill(left: &[u8], piece: &mut [u8], most: usize) -> usize
+    requires { 1 ≤ most }
     ensures count { result ≤ length piece.new }
     ensures within { result ≤ length left.now }
+    ensures most { result ≤ most }
     ensures bytes { take result piece.new ≡ take result left.now }
     ensures end { result ≡ 0 → 0 < length piece.new → left.now ≡ [] }
 {
-    let count = left.len().min(piece.len());
+    let count = left.len().min(piece.len()).min(most);
     piece[..count].copy_from_slice(&left[..count]);
     count
 }

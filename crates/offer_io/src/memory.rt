@@ -1,7 +1,7 @@
 //! A store in memory, which tells all that it holds.
 // A struct with ghost fields imports each line here, so what names the struct itself is imported by
 // the blocks below.
-ghost use Rattle.std.specs.Prelude.{◌≡◌, ◌<◌, length, OnOk, OnErr, IsErr, IsTrue, ◌↔◌, option_copied};
+ghost use Rattle.std.specs.Prelude.{◌≡◌, ◌≤◌, ◌<◌, length, OnOk, OnErr, IfOk, IsErr, IsTrue, ◌↔◌, option_copied};
 ghost use Rattle.std.specs.Option.{ForSome};
 ghost use Rattle.offer_io.specs.Plans.{new_plan, plan_with, fails_next};
 ghost use Rattle.offer_io.specs.Entries.{IsFirst};
@@ -24,13 +24,16 @@ pub struct MemoryStore {
     output: Option<usize>,
     sealed: bool,
     plan: Plan,
+    // The most bytes that a read gives.
+    most: usize,
     faults: u64,
+    ghost most_is_some: { 1 ≤ most },
     ghost input_there: { ForSome input (λ p. p.0 < length files.items) },
     ghost output_there: { ForSome output (IsFirst files.items) },
 }
 
 impl MemoryStore {
-    ghost use Rattle.offer_io.specs.MemoryStores.{memory_view, store_plan, empty_view, Puts};
+    ghost use Rattle.offer_io.specs.MemoryStores.{memory_view, store_plan, store_most, empty_view, Puts};
 
     /// A store without files. It keeps the allocator for later growth.
     pub fn new(alloc: Global) -> MemoryStore
@@ -44,6 +47,7 @@ impl MemoryStore {
             output: None,
             sealed: false,
             plan: Plan::new(alloc),
+            most: usize::MAX,
             faults: 0,
         }
     }
@@ -54,6 +58,7 @@ impl MemoryStore {
             (Puts (memory_view self.old) name.now content.now (memory_view self.new)) }
         ensures err { OnErr result (memory_view self.new ≡ memory_view self.old) }
         ensures plan { store_plan self.new ≡ store_plan self.old }
+        ensures most { store_most self.new ≡ store_most self.old }
     {
         entries::put_file(self.alloc, &mut self.files, name.as_bytes(), content)?;
         Ok(())
@@ -64,8 +69,19 @@ impl MemoryStore {
         ensures ok { OnOk result (store_plan self.new ≡ plan_with (store_plan self.old) call) }
         ensures err { OnErr result (store_plan self.new ≡ store_plan self.old) }
         ensures view { memory_view self.new ≡ memory_view self.old }
+        ensures most { store_most self.new ≡ store_most self.old }
     {
         self.plan.fail_at(call)
+    }
+
+    /// Lets each later read give at most so many bytes. It takes no memory.
+    pub fn give_at_most(&mut self, bytes: usize)
+        requires { 1 ≤ bytes }
+        ensures most { store_most self.new ≡ bytes }
+        ensures plan { store_plan self.new ≡ store_plan self.old }
+        ensures view { memory_view self.new ≡ memory_view self.old }
+    {
+        self.most = bytes;
     }
 
     #[tactic(auto, using(crate::proofs::EntryLemmas::absent, crate::proofs::EntryLemmas::opened))]
@@ -87,7 +103,7 @@ impl MemoryStore {
 
 #[tactic(auto, using(crate::proofs::EntryLemmas::shelf_steps))]
 impl Store for MemoryStore {
-    ghost use Rattle.offer_io.specs.MemoryStores.{memory_view, store_plan, Counts, FailsToOpen};
+    ghost use Rattle.offer_io.specs.MemoryStores.{memory_view, store_plan, store_most, Counts, FailsToOpen};
     ghost use Rattle.offer_io.specs.Stores.{Opens, Reads, Creates, Appends, Seals};
 
     ghost view = { memory_view };
@@ -119,6 +135,7 @@ impl Store for MemoryStore {
         requires { IsTrue (memory_view self.old).reading }
         ensures reads { Reads (memory_view self.old) result piece.new (memory_view self.new) }
         ensures fails { IsErr result ↔ IsTrue (fails_next (store_plan self.old)) }
+        ensures most { IfOk result (λ n. n ≤ store_most self.old) }
         ensures counted { Counts self.old result self.new }
     {
         let Some((place, from)) = self.input else {
@@ -128,7 +145,8 @@ impl Store for MemoryStore {
             self.faults = self.faults.saturating_add(1);
             return Err(Failed);
         }
-        let count = entries::fill(entries::rest_at(&self.files, place, from), piece);
+        let rest = entries::rest_at(&self.files, place, from);
+        let count = entries::fill(rest, piece, self.most);
         self.input = Some((place, from + count));
         Ok(count)
     }

@@ -91,7 +91,8 @@ impl Store for ReadyStore {
         let Some((place, from)) = self.input else {
             unreachable!();
         };
-        let count = entries::fill(entries::rest_at(&self.files, place, from), piece);
+        let rest = entries::rest_at(&self.files, place, from);
+        let count = entries::fill(rest, piece, usize::MAX);
         self.input = Some((place, from + count));
         Ok(count)
     }

@@ -10,12 +10,12 @@ returns-then-fails_now-clause-appends c =
 pub invariant_of-self-then-is_err : goal.invariant_of-self-then-is_err
 invariant_of-self-then-is_err c =
     let p = places_stay _ _ c.args.self.now.input _ c.in-Some.place _ c.in-Some.is (c.args.self.now.output_there c.in-Some.place c.in-Some.is) c.grow_at.ensures c.args.self.now.input_there in
-    record { input_there = p.0; output_there = p.1 }
+    record { most_is_some = c.args.self.now.most_is_some; input_there = p.0; output_there = p.1 }
 
 pub invariant_of-self-else-is_err : goal.invariant_of-self-else-is_err
 invariant_of-self-else-is_err c =
     let p = places_stay _ _ c.args.self.now.input _ c.in-Some.place _ c.in-Some.is (c.args.self.now.output_there c.in-Some.place c.in-Some.is) c.grow_at.ensures c.args.self.now.input_there in
-    record { input_there = p.0; output_there = p.1 }
+    record { most_is_some = c.args.self.now.most_is_some; input_there = p.0; output_there = p.1 }
 
 pub returns-then-is_err-clause-appends : goal.returns-then-is_err-clause-appends
 returns-then-is_err-clause-appends c =

@@ -17,7 +17,7 @@ invariant_of-self-in-Some c =
     let at : position (is_named c.args.name.now) c.args.self.now.files.items ≡ Some c.in-Some.place = search rules in
     let f = found c.args.self.now.files.items c.args.name.now c.in-Some.place at in
     let p = places_stay _ _ c.args.self.now.input (Some c.in-Some.place) c.in-Some.place _ (λ i. Some c.in-Some.place) f.1 c.empty_at.ensures c.args.self.now.input_there in
-    record { input_there = p.0; output_there = p.1 }
+    record { most_is_some = c.args.self.now.most_is_some; input_there = p.0; output_there = p.1 }
 
 pub returns-else-is_err-clause-creates : goal.returns-else-is_err-clause-creates
 returns-else-is_err-clause-creates c =
@@ -36,4 +36,4 @@ invariant_of-self-in-None c =
     let added = rw (c.as_bytes-in-None.ensures.value, c.new-empty.ensures.items) at (of_ok c.add_file.result _ good c.add_file.ensures.ok) in
     let long : c.len-place.result ≡ length c.args.self.now.files.items = search rules in
     let p = places_after_adding _ _ _ c.args.self.now.input none added c.args.self.now.input_there in
-    rw long (record { input_there = p.0; output_there = p.1 })
+    rw long (record { most_is_some = c.args.self.now.most_is_some; input_there = p.0; output_there = p.1 })
