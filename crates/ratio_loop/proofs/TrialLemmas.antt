@@ -1,5 +1,6 @@
 -- From one trial to the next.
-use Rattle.std.proofs.Common.{◌≡◌, ℕ, zero, suc, ◌+◌, ◌-◌, ◌*◌, ◌^◌, ◌<◌, ◌≤◌, ◌↔◌, Bool, List, sym, ap, arith, add-one, subst}
+use Rattle.std.proofs.Common.{◌≡◌, ℕ, zero, suc, ◌+◌, ◌-◌, ◌*◌, ◌^◌, ◌<◌, ◌≤◌, ◌↔◌, Bool, Option, Some, None, List, sym, ap, arith, add-one, subst}
+use Rattle.std.specs.Prelude.{pos, ◌≤ℤ◌, ◌<ℤ◌, Result, Ok, Err, IfOk}
 use Rattle.std.proofs.lemmas.Int.{ints}
 use Rattle.std.proofs.Math.Nat.{mul-le-mul, mul-le-mul_left}
 use Rattle.offer_model.specs.declared.node.Mark.{Mark}
@@ -14,10 +15,10 @@ use Rattle.offer_model.specs.Prices.{worth_of}
 use Rattle.offer_model.proofs.WorthLemmas.{worth_is}
 use Rattle.offer_model.proofs.CompletionLemmas.{Completes-open}
 use Rattle.linear_step.specs.Weights.{WeightsData, prices_of, AreAt}
-use Rattle.linear_step.specs.Answers.{IsGreatest, HasNone}
+use Rattle.linear_step.specs.Answers.{IsGreatest, HasNone, AnswersFrom}
 use Rattle.ratio_loop.specs.Earnings.{IsSame, Earns, IsGreatestRevenue}
 use Rattle.ratio_loop.specs.Trials.{EarnsMost}
-use Rattle.ratio_loop.specs.Ties.{IsCompletionAt}
+use Rattle.ratio_loop.specs.Ties.{AnswersAt}
 use Rattle.ratio_loop.proofs.LoopFacts.{IsReached}
 use Rattle.ratio_loop.proofs.NumberLemmas.{next_weighs, to_a_fourth, falls, few}
 use Rattle.offer_model.proofs.EarningLemmas.{own_gain-small, own_weight-small, own_weight-positive, ratio_from_earns, earns_from_ratio}
@@ -119,15 +120,37 @@ EarnsMost-greatest p x model most y feasible = not_above _ _ (λ above. most.mos
     not_above : (a b : ℕ) → (b < a → ⊥) → a ≤ b
     not_above a b h = omega arith
 
--- Where a greatest completion doesn't earn the greatest revenue, no completion does.
-pub none_earns : (p : ProblemData) (at reached : Fraction) (w : WeightsData) (node : List Mark) (x y : List Bool) → AreAt p at.num at.den w
-    → IsGreatestRevenue p at → IsGreatest p (prices_of w) node x → reached ≡ revenue_of p x → (IsSame reached at → ⊥) → IsCompletionAt p at node y → ⊥
-none_earns p at reached w node x y same bound greatest found other own =
-    let over = greatest_weighs p at w node x y same greatest own.feasible own.completes in
-    let under = bound x greatest.feasible in
-    let tied = own.earns in
-    let earns : Earns p x at = omega arith in
-    other (rw found earns)
+-- What weighs 0 or more at the greatest revenue earns it.
+reaching_earns : (p : ProblemData) (at : Fraction) (w : WeightsData) (x : List Bool) → AreAt p at.num at.den w → IsGreatestRevenue p at → IsFeasible p x
+    → pos 0 ≤ℤ worth_of p (prices_of w) x → Earns p x at
+reaching_earns p at w x same bound feasible reached =
+    let under = bound x feasible in
+    let e = ap (λ b. worth_of p b x) same in
+    let worth = worth_is p at.num at.den x in
+    omega (arith, ints)
+
+-- What weighs less doesn't.
+below_earns_less : (p : ProblemData) (at : Fraction) (w : WeightsData) (x : List Bool) → AreAt p at.num at.den w
+    → worth_of p (prices_of w) x <ℤ pos 0 → Earns p x at → ⊥
+below_earns_less p at w x same below earns =
+    let e = ap (λ b. worth_of p b x) same in
+    let worth = worth_is p at.num at.den x in
+    absurd (omega (arith, ints))
+
+earning_answers : (p : ProblemData) (at : Fraction) (w : WeightsData) (node : List Mark) (o : Option (List Bool)) → AreAt p at.num at.den w
+    → IsGreatestRevenue p at → AnswersFrom p (prices_of w) node (pos 0) o → AnswersAt p at node o
+earning_answers p at w node (Some x) same bound answer = record {
+  feasible = answer.0.feasible;
+  completes = answer.0.completes;
+  earns = reaching_earns p at w x same bound answer.0.feasible answer.1;
+}
+earning_answers p at w node None same bound none = λ y own. below_earns_less p at w y same (none y own.feasible own.completes) own.earns
+
+-- At the greatest revenue a completion of weight 0 or more is one that earns it, and none is none that does.
+pub answers_earn : {E : Type 0} (p : ProblemData) (at : Fraction) (w : WeightsData) (node : List Mark) (r : Result (Option (List Bool)) E)
+    → AreAt p at.num at.den w → IsGreatestRevenue p at → IfOk r (AnswersFrom p (prices_of w) node (pos 0)) → IfOk r (AnswersAt p at node)
+answers_earn p at w node (Ok o) same bound answer = earning_answers p at w node o same bound answer
+answers_earn p at w node (Err e) same bound answer = tt
 
 -- ---- The loop, over what its code holds.
 

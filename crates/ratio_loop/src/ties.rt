@@ -10,10 +10,12 @@ ghost use Rattle.ratio_loop.specs.Earnings.{IsGreatestRevenue};
 ghost use Rattle.ratio_loop.specs.Trials.{EarnsMost, AreAtOwn};
 ghost use Rattle.ratio_loop.specs.Ties.{AnswersAt};
 
-use crate::earnings::is_same;
 use linear_step::{Step, Steps, Weights};
 use offer_model::{Assortment, Fraction, Mark, NoMemory, Node, Problem, revenue};
 use std::sync::ledger::Ledger;
+
+/// What an assortment weighs, at the greatest revenue, that earns it. No other weighs more.
+const EQUAL: i128 = 0;
 
 /// A feasible completion that earns the greatest revenue, if there is one. The weights are those at the revenue.
 fn completion_at<L: Ledger, T: Step<L>>(
@@ -39,13 +41,7 @@ fn completion_at<L: Ledger, T: Step<L>>(
     ensures count { steps.new ≡ steps.old + 1 }
     ensures answer { IfOk result (AnswersAt p.now at node.now) }
 {
-    let Some(x) = step.best(p, weights, node, steps)? else {
-        return Ok(None);
-    };
-    if is_same(revenue(p, &x), at) {
-        return Ok(Some(x));
-    }
-    Ok(None)
+    step.best_from(p, weights, node, EQUAL, steps)
 }
 
 /// The best assortment, from one that earns most and the weights at its revenue. In catalogue order each product is left
