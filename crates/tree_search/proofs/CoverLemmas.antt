@@ -84,20 +84,24 @@ module _ (r : Rules) where
 
   -- ---- The same of matching, which asks for less.
 
-  beaten_matches : (best : Option (List Bool)) (node : List Mark) (y : List Bool) → r.value y ≤ℤ r.bound node → IsBeaten r best node → Matches r best y
-  beaten_matches None node y v e = absurd e
-  beaten_matches (Some b) node y v (inl low) = omega (arith, ints)
-  beaten_matches (Some b) node y v (inr same) = let s = same.0 in omega (arith, ints)
+  beaten_matches : (floor : ℤ) (best : Option (List Bool)) (node : List Mark) (y : List Bool) → r.value y ≤ℤ r.bound node → IsBeaten r best node
+      → Matches r floor best y
+  beaten_matches floor None node y v e = absurd e
+  beaten_matches floor (Some b) node y v (inl low) = inl (omega (arith, ints))
+  beaten_matches floor (Some b) node y v (inr same) = let s = same.0 in inl (omega (arith, ints))
 
-  seen_matches : (best : Option (List Bool)) (seen : ℤ) (node : List Mark) (y : List Bool) → IsReached r best seen → r.value y ≤ℤ r.bound node
-      → r.bound node <ℤ seen → least ≤ℤ r.bound node → Matches r best y
-  seen_matches None seen node y s v l f = absurd (omega (arith, ints))
-  seen_matches (Some b) seen node y s v l f = omega (arith, ints)
+  -- What a bound below the number seen bounds is below the floor, or worth no more than the best.
+  seen_matches : (floor : ℤ) (best : Option (List Bool)) (seen : ℤ) (node : List Mark) (y : List Bool) → IsReached r floor best seen
+      → r.value y ≤ℤ r.bound node → r.bound node <ℤ seen → Matches r floor best y
+  seen_matches floor None seen node y s v l = omega (arith, ints)
+  seen_matches floor (Some b) seen node y (inl s) v l = inr (omega (arith, ints))
+  seen_matches floor (Some b) seen node y (inr s) v l = inl (omega (arith, ints))
 
-  met_matches : (old new : Option (List Bool)) (x : List Bool) → length x ≡ r.products → IsFeasibleBest r old → IsBestAfter r x old new → Matches r new x
-  met_matches old new x l f (inl t) = subst (λ (b : Option (List Bool)). Matches r b x) (sym t.1) (omega (arith, ints))
-  met_matches None new x l f (inr t) = absurd (t.0 tt)
-  met_matches (Some b) new x l f (inr t) = subst (λ (o : Option (List Bool)). Matches r o x) (sym t.1) (no_better t.0)
+  met_matches : (floor : ℤ) (old new : Option (List Bool)) (x : List Bool) → length x ≡ r.products → IsFeasibleBest r old → IsBestAfter r x old new
+      → Matches r floor new x
+  met_matches floor old new x l f (inl t) = subst (λ (b : Option (List Bool)). Matches r floor b x) (sym t.1) (inl (omega (arith, ints)))
+  met_matches floor None new x l f (inr t) = absurd (t.0 tt)
+  met_matches floor (Some b) new x l f (inr t) = subst (λ (o : Option (List Bool)). Matches r floor o x) (sym t.1) (inl (no_better t.0))
     where
       by_value : (IsBetter r x b → ⊥) → (r.value b <ℤ r.value x) ⊎ (r.value x ≤ℤ r.value b) → r.value x ≤ℤ r.value b
       by_value n (inl a) = absurd (n (inl a))
@@ -106,10 +110,11 @@ module _ (r : Rules) where
       no_better : (IsBetter r x b → ⊥) → r.value x ≤ℤ r.value b
       no_better n = by_value n (grind (arith, ints))
 
-  grown_matches : (old new : Option (List Bool)) (x y : List Bool) → IsBestAfter r x old new → Matches r old y → Matches r new y
-  grown_matches old new x y (inr t) c = subst (λ (b : Option (List Bool)). Matches r b y) (sym t.1) c
-  grown_matches None new x y (inl t) c = absurd c
-  grown_matches (Some b) new x y (inl t) c = subst (λ (o : Option (List Bool)). Matches r o y) (sym t.1) (more t.0)
+  grown_matches : (floor : ℤ) (old new : Option (List Bool)) (x y : List Bool) → IsBestAfter r x old new → Matches r floor old y → Matches r floor new y
+  grown_matches floor old new x y (inr t) c = subst (λ (b : Option (List Bool)). Matches r floor b y) (sym t.1) c
+  grown_matches floor None new x y (inl t) c = subst (λ (o : Option (List Bool)). Matches r floor o y) (sym t.1) (inr c)
+  grown_matches floor (Some b) new x y (inl t) (inr c) = subst (λ (o : Option (List Bool)). Matches r floor o y) (sym t.1) (inr c)
+  grown_matches floor (Some b) new x y (inl t) (inl c) = subst (λ (o : Option (List Bool)). Matches r floor o y) (sym t.1) (inl (more t.0))
     where
       more : IsBetter r x b → r.value y ≤ℤ r.value x
       more (inl a) = omega (arith, ints)
@@ -123,8 +128,8 @@ module _ (r : Rules) where
   covers_keeps : Keeps (Covers r)
   covers_keeps = record { met = met_covers; grown = covers_grown }
 
-  matches_keeps : Keeps (Matches r)
-  matches_keeps = record { met = met_matches; grown = grown_matches }
+  matches_keeps : (floor : ℤ) → Keeps (Matches r floor)
+  matches_keeps floor = record { met = met_matches floor; grown = grown_matches floor }
 
   -- ---- The same of covering, or being worth less than a number seen.
 
@@ -157,16 +162,16 @@ module _ (r : Rules) where
         by_case v free (inr (inl l)) = inr (omega (arith, ints))
         by_case v free (inr (inr b)) = inl (beaten_covers old.best node y c long v feasible b)
 
-    -- The best matches them, where the number seen is at most one more.
-    dropped_matches : (y : List Bool) → Completes node y → r.Feasible y → IsReached r old.best seen → HasBoundInRange r old.stack
-        → IsDropped r seen old.best node → Matches r old.best y
-    dropped_matches y c f reached range d =
+    -- The best matches them, where the number seen is at most the floor, or one more than the best's value.
+    dropped_matches : (floor : ℤ) (y : List Bool) → Completes node y → r.Feasible y → IsReached r floor old.best seen → IsDropped r seen old.best node
+        → Matches r floor old.best y
+    dropped_matches floor y c f reached d =
         by_case (law.bounded node y long c f) (λ k. law.clashing node y long k c f) d
       where
-        by_case : r.value y ≤ℤ r.bound node → (r.Clashing node → ⊥) → IsDropped r seen old.best node → Matches r old.best y
+        by_case : r.value y ≤ℤ r.bound node → (r.Clashing node → ⊥) → IsDropped r seen old.best node → Matches r floor old.best y
         by_case v free (inl k) = absurd (free k)
-        by_case v free (inr (inl l)) = seen_matches old.best seen node y reached v l (subst (HasBoundInRange r) top range free)
-        by_case v free (inr (inr b)) = beaten_matches old.best node y v b
+        by_case v free (inr (inl l)) = seen_matches floor old.best seen node y reached v l
+        by_case v free (inr (inr b)) = beaten_matches floor old.best node y v b
 
     module _ (Does : Option (List Bool) → List Bool → Type 0) (keeps : Keeps Does) (y : List Bool) where
       taken_has : (o : Option ℕ) → IsOpenOf node o → IsTaken r old node rest o new → CompletesSome (node ∷ rest) y ⊎ Does old.best y → HasBy Does new y
@@ -226,13 +231,13 @@ module _ (r : Rules) where
         (λ c d. dropped_covers law seen old new feasible turn.node turn.rest turn.top long y c f own range d) turn.outcome
         (subst (λ (s : List (List Mark)). CompletesSome s y ⊎ Covers r old.best y) turn.top h)
 
-    pub turn_matches : (y : List Bool) → r.Feasible y → IsReached r old.best seen → HasBoundInRange r old.stack
-        → HasBy (Matches r) old y → HasBy (Matches r) new y
-    turn_matches y f reached range h =
+    pub turn_matches : (floor : ℤ) (y : List Bool) → r.Feasible y → IsReached r floor old.best seen → HasBy (Matches r floor) old y
+        → HasBy (Matches r floor) new y
+    turn_matches floor y f reached h =
         let long = top_long old turn.node turn.rest turn.top p sound in
-        turned_has law seen old new feasible turn.node turn.rest turn.top long (Matches r) matches_keeps y
-        (λ c d. dropped_matches law seen old new feasible turn.node turn.rest turn.top long y c f reached range d) turn.outcome
-        (subst (λ (s : List (List Mark)). CompletesSome s y ⊎ Matches r old.best y) turn.top h)
+        turned_has law seen old new feasible turn.node turn.rest turn.top long (Matches r floor) (matches_keeps floor) y
+        (λ c d. dropped_matches law seen old new feasible turn.node turn.rest turn.top long floor y c f reached d) turn.outcome
+        (subst (λ (s : List (List Mark)). CompletesSome s y ⊎ Matches r floor old.best y) turn.top h)
 
     -- A turn with any number seen loses only assortments that are worth less than it.
     pub turn_reaches : (y : List Bool) → r.Feasible y → HasBy (Reaches r seen) old y → HasBy (Reaches r seen) new y

@@ -7,9 +7,6 @@ pub mod RunLemmas
 pub mod BeginLemmas
 pub mod WalkLemmas
 pub mod GiveLemmas
-pub mod OpenLemmas
-pub mod WeightLemmas
-pub mod SearchLemmas
 pub mod WorldLemmas
 pub mod CoveredLemmas
 pub mod EndedLemmas

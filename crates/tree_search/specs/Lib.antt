@@ -8,7 +8,3 @@ pub mod Gives
 pub mod Progress
 pub mod Worlds
 pub mod Covered
-pub mod Opens
-pub mod WeightGoals
-pub mod WeightLaws
-pub mod SearchFits

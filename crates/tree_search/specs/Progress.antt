@@ -16,10 +16,10 @@ abbrev pub Covers : Rules → Option (List Bool) → List Bool → Type 0
 Covers r None y = ⊥
 Covers r (Some best) y = (best ≡ y) ⊎ IsBetter r best y
 
--- The best is worth as much as the assortment, or more.
-abbrev pub Matches : Rules → Option (List Bool) → List Bool → Type 0
-Matches r None y = ⊥
-Matches r (Some best) y = r.value y ≤ℤ r.value best
+-- The best is worth as much as the assortment, or more, or the assortment doesn't reach the floor.
+abbrev pub Matches : Rules → ℤ → Option (List Bool) → List Bool → Type 0
+Matches r floor None y = r.value y <ℤ floor
+Matches r floor (Some best) y = (r.value y ≤ℤ r.value best) ⊎ (r.value y <ℤ floor)
 
 -- The walker has yet to meet the assortment, or its best does for it, by covering or by matching it.
 abbrev pub HasBy : (Option (List Bool) → List Bool → Type 0) → Walk → List Bool → Type 0
@@ -41,11 +41,11 @@ abbrev pub IsOwn : Rules → Option (List Bool) → ℤ → Type 0
 IsOwn r None seen = seen ≡ least
 IsOwn r (Some best) seen = seen ≡ r.value best
 
--- At most the best's value and one, or the least number of 128 bits. No node whose bound is below it has a completion that is
--- worth more than the best.
-abbrev pub IsReached : Rules → Option (List Bool) → ℤ → Type 0
-IsReached r None seen = seen ≡ least
-IsReached r (Some best) seen = seen ≤ℤ (r.value best +ℤ pos 1)
+-- At most the floor, or at most the best's value and one. No node whose bound is below it has a completion that reaches the
+-- floor and is worth more than the best.
+abbrev pub IsReached : Rules → ℤ → Option (List Bool) → ℤ → Type 0
+IsReached r floor None seen = seen ≤ℤ floor
+IsReached r floor (Some best) seen = (seen ≤ℤ floor) ⊎ (seen ≤ℤ (r.value best +ℤ pos 1))
 
 -- The assortment completes the node of a task from `next` on.
 abbrev pub IsLeft : Rules → ℕ → List Bool → Type 0

@@ -5,7 +5,7 @@ ghost use Rattle.offer_model.specs.Nodes.{open_node};
 
 use crate::goal::Goal;
 use crate::walker::Walker;
-use offer_model::{Assortment, NoMemory};
+use offer_model::{Assortment, NoMemory, Node};
 use std::alloc::Global;
 
 /// Works until there is a best, or the stack is empty.
@@ -28,8 +28,10 @@ pub fn greedy<T: Goal>(alloc: Global, goal: &mut T) -> Result<Option<Assortment>
     ensures found { IfOk result (λ best. IsFoundOf (T.rules goal.old) best) }
     ensures same { goal.new ≡ goal.old }
 {
-    let mut walker = Walker::reserve(alloc, goal.products())?;
-    walker.begin();
+    let count = goal.products();
+    let root = Node::open(alloc, count)?;
+    let mut walker = Walker::reserve(alloc, count)?;
+    walker.begin(&root);
     dive(&mut walker, goal);
     Ok(walker.into_best())
 }

@@ -2,17 +2,14 @@
 #![tactic(auto)]
 
 mod begin;
-mod branch_order;
-mod branching;
 mod event;
 mod goal;
 mod laws;
 mod pruning;
+mod reaching;
 mod search;
-mod step;
 mod tasks;
 mod walker;
-mod weights_goal;
 mod worker;
 mod world;
 
@@ -21,8 +18,8 @@ pub use event::Event;
 pub use goal::Goal;
 pub use laws::{ended_has_top, events_keep_covered};
 pub use pruning::meet;
+pub use reaching::search_from;
 pub use search::search_alone;
-pub use step::SearchStep;
 pub use tasks::tasks_of;
 pub use walker::Walker;
 pub use world::World;

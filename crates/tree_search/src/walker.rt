@@ -168,15 +168,16 @@ impl Walker {
         other.stack.push_reserved(node);
     }
 
-    /// Puts the node on the stack in which all is Open.
-    pub(crate) fn begin(&mut self)
+    /// Puts a node on the stack, which a search begins with.
+    pub(crate) fn begin(&mut self, root: &Node)
+        requires long { length root.now ≡ self.old.products }
         requires idle { self.old.stack ≡ [] }
-        ensures { self.new ≡ with_stack self.old (open_node self.old.products ∷ []) }
+        ensures { self.new ≡ with_stack self.old (root.now ∷ []) }
     {
         let Some(mut node) = self.free.pop() else {
             unreachable!();
         };
-        node.copy_from(&self.root);
+        node.copy_from(root);
         self.stack.push_reserved(node);
     }
 

@@ -5,8 +5,8 @@ use mir.Val.{SFits, to_z}
 use mir.Syntax.{w128}
 use Rattle.tree_search.specs.Goals.{Rules, IsLawful}
 use Rattle.tree_search.specs.Turns.{Turn, HasBoundInRange}
-use Rattle.tree_search.specs.Progress.{IsOwn, IsReached}
-use Rattle.tree_search.proofs.CoverLemmas.{turn_has, turn_matches, turn_feasible}
+use Rattle.tree_search.specs.Progress.{IsOwn}
+use Rattle.tree_search.proofs.CoverLemmas.{turn_has, turn_feasible}
 use Rattle.tree_search.proofs.SizeLemmas.{turn_smaller}
 use Rattle.tree_search.proofs.RunLemmas.{turn_products}
 use Rattle.tree_search.proofs.search.run.Goals as goal
@@ -29,18 +29,13 @@ loop-walker-preserved g c =
     (subst (λ x. Turn (g.T.Goal.rules x) (to_z w128 c.loop-walker.seen-bits) c.loop-walker.walker c.turn-seen.new.walker) i.same c.turn-seen.ensures.turn) in
     let p : c.loop-walker.walker.products ≡ r.products = i.products ∙ c.requires.goal in
     let range = subst (λ x. HasBoundInRange (g.T.Goal.rules x) c.loop-walker.walker.stack) i.same c.turn-seen.ensures.range in
-    let reached = subst (λ (z : ℤ). IsReached r c.loop-walker.walker.best z) c.loop-walker.seen-is i.reached in
     let fit : SFits w128 c.turn-seen.result = search rules in
     record {
       same = c.turn-seen.ensures.same ∙ i.same;
       products = turn_products r c.loop-walker.seen c.loop-walker.walker c.turn-seen.new.walker t ∙ i.products;
       best = turn_feasible r law c.loop-walker.seen c.loop-walker.walker c.turn-seen.new.walker t p c.turn-seen.ensures.sound i.best;
-      own = λ e. subst (λ (z : ℤ). IsOwn r c.turn-seen.new.walker.best z) (sym (to_z-of_z w128 c.turn-seen.result fit))
-          (subst (λ x. IsOwn (g.T.Goal.rules x) c.turn-seen.new.walker.best c.turn-seen.result) i.same (c.turn-seen.ensures.own e));
-      reached = subst (λ (z : ℤ). IsReached r c.turn-seen.new.walker.best z) (sym (to_z-of_z w128 c.turn-seen.result fit))
-          (subst (λ x. IsReached (g.T.Goal.rules x) c.turn-seen.new.walker.best c.turn-seen.result) i.same c.turn-seen.ensures.reached);
-      kept = λ e y f h. turn_has r law c.loop-walker.seen c.loop-walker.walker c.turn-seen.new.walker t p c.turn-seen.ensures.sound i.best y f
-          (subst (λ (z : ℤ). IsOwn r c.loop-walker.walker.best z) c.loop-walker.seen-is (i.own e)) range (i.kept e y f h);
-      matched = λ y f h. turn_matches r law c.loop-walker.seen c.loop-walker.walker c.turn-seen.new.walker t p c.turn-seen.ensures.sound i.best y f reached range
-          (i.matched y f h);
+      own = subst (λ (z : ℤ). IsOwn r c.turn-seen.new.walker.best z) (sym (to_z-of_z w128 c.turn-seen.result fit))
+          (subst (λ x. IsOwn (g.T.Goal.rules x) c.turn-seen.new.walker.best c.turn-seen.result) i.same c.turn-seen.ensures.own);
+      kept = λ y f h. turn_has r law c.loop-walker.seen c.loop-walker.walker c.turn-seen.new.walker t p c.turn-seen.ensures.sound i.best y f
+          (subst (λ (z : ℤ). IsOwn r c.loop-walker.walker.best z) c.loop-walker.seen-is i.own) range (i.kept y f h);
     }

@@ -1,5 +1,5 @@
-use Rattle.std.proofs.Common.{◌≡◌, List, Bool, true}
-use Rattle.tree_search.specs.Progress.{Matches, HasBy, Has, IsFeasibleBest, IsOwn, IsReached}
+use Rattle.std.proofs.Common.{◌≡◌, List, Bool}
+use Rattle.tree_search.specs.Progress.{Has, IsFeasibleBest, IsOwn}
 use Rattle.tree_search.proofs.SizeLemmas.{size}
 use Rattle.tree_search.proofs.search.run.Given as goal
 
@@ -11,10 +11,8 @@ invariant-loop-walker g l =
       same : l.goal ≡ l.initial.goal;
       products : l.walker.products ≡ l.initial.walker.products;
       best : IsFeasibleBest r l.walker.best;
-      own : l.equals ≡ true → IsOwn r l.walker.best l.seen;
-      reached : IsReached r l.walker.best l.seen;
-      kept : l.equals ≡ true → (y : List Bool) → r.Feasible y → Has r l.initial.walker y → Has r l.walker y;
-      matched : (y : List Bool) → r.Feasible y → HasBy (Matches r) l.initial.walker y → HasBy (Matches r) l.walker y;
+      own : IsOwn r l.walker.best l.seen;
+      kept : (y : List Bool) → r.Feasible y → Has r l.initial.walker y → Has r l.walker y;
     }
 
 -- All nodes that can still come of the stack.

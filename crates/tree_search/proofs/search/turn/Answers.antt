@@ -1,7 +1,7 @@
 use Rattle.std.proofs.Common.{◌≡◌, sym, subst, Bool, Option, List}
 use Rattle.std.proofs.lemmas.Int.{to_z-of_z}
 use mir.Syntax.{w128}
-use Rattle.tree_search.specs.Progress.{IsFeasibleBest, IsOwn, IsReached}
+use Rattle.tree_search.specs.Progress.{IsFeasibleBest, IsOwn}
 use Rattle.tree_search.proofs.CoverLemmas.{turn_feasible}
 use Rattle.tree_search.proofs.RunLemmas.{turn_same}
 use Rattle.tree_search.proofs.search.turn.Goals as goal
@@ -14,14 +14,9 @@ same_best g c = turn_same (g.T.Goal.rules c.args.goal.now) _ _ _ c.work.ensures.
     (λ d. (let e = c.work.ensures.changed.1 d in let f = c.if-not-work.true in absurd cc))
 
 pub returns-then-not-work-clause-own : goal.returns-then-not-work-clause-own
-returns-then-not-work-clause-own g c = λ t.
+returns-then-not-work-clause-own g c =
     rw (to_z-of_z w128 c.args.seen c.ranges.seen)
-    (subst (λ (o : Option (List Bool)). IsOwn (g.T.Goal.rules c.args.goal.now) o c.args.seen) (sym (same_best g c)) (c.requires.own t))
-
-pub returns-then-not-work-clause-reached : goal.returns-then-not-work-clause-reached
-returns-then-not-work-clause-reached g c =
-    rw (to_z-of_z w128 c.args.seen c.ranges.seen)
-    (subst (λ (o : Option (List Bool)). IsReached (g.T.Goal.rules c.args.goal.now) o c.args.seen) (sym (same_best g c)) c.requires.reached)
+    (subst (λ (o : Option (List Bool)). IsOwn (g.T.Goal.rules c.args.goal.now) o c.args.seen) (sym (same_best g c)) c.requires.own)
 
 pub wanted-requires-clause-best : goal.wanted-requires-clause-best
 wanted-requires-clause-best g c =

@@ -2,9 +2,9 @@ use Rattle.std.proofs.Common.{ap, sym, subst, Some, refl, ◌≡◌, ◌∙◌, 
 use Rattle.tree_search.specs.Goals.{Rules, IsFeasibleFor, IsFoundOf}
 use Rattle.tree_search.specs.Tasks.{task_of}
 use Rattle.tree_search.specs.Turns.{Walk, with_stack}
-use Rattle.tree_search.specs.Progress.{Covers, Matches, HasBy, Has, IsFeasibleBest}
+use Rattle.tree_search.specs.Progress.{Covers, Has, IsFeasibleBest}
 use Rattle.tree_search.proofs.RunLemmas.{progress_starts, progress_more}
-use Rattle.tree_search.proofs.search.search.Goals as goal
+use Rattle.tree_search.proofs.search.search_alone.Goals as goal
 
 pub loop-task-init : goal.loop-task-init
 loop-task-init g c =
@@ -18,8 +18,7 @@ loop-task-init g c =
     record {
       same = refl;
       empty = ap (λ (w : Walk). w.stack) e;
-      progress = λ t. progress_starts r (Covers r) c.in_ok-walker.walker products feasible;
-      matched = progress_starts r (Matches r) c.in_ok-walker.walker products feasible;
+      progress = progress_starts r (Covers r) c.in_ok-walker.walker products feasible;
     }
 
 pub loop-task-preserved : goal.loop-task-preserved
@@ -33,13 +32,8 @@ loop-task-preserved g c =
     record {
       same = c.run.ensures.same ∙ i.same;
       empty = c.run.ensures.empty;
-      progress = λ t. progress_more r (Covers r) c.loop-task.task w c.start.new.self c.run.new.walker (i.progress t) i.empty is
+      progress = progress_more r (Covers r) c.loop-task.task w c.start.new.self c.run.new.walker i.progress i.empty is
           (subst (λ x. (y : List Bool) → (g.T.Goal.rules x).Feasible y → Has (g.T.Goal.rules x) c.start.new.self y → Has (g.T.Goal.rules x) c.run.new.walker y)
-          i.same (c.run.ensures.kept t))
-          best c.run.ensures.products;
-      matched = progress_more r (Matches r) c.loop-task.task w c.start.new.self c.run.new.walker i.matched i.empty is
-          (subst (λ x. (y : List Bool) → (g.T.Goal.rules x).Feasible y → HasBy (Matches (g.T.Goal.rules x)) c.start.new.self y
-          → HasBy (Matches (g.T.Goal.rules x)) c.run.new.walker y)
-          i.same c.run.ensures.matched)
+          i.same c.run.ensures.kept)
           best c.run.ensures.products;
     }

@@ -1,7 +1,0 @@
-use Rattle.std.proofs.Common.{◌≡◌, ℕ, ◌<◌, None}
-use Rattle.limit_rules.specs.Broken.{limit_at}
-use Rattle.tree_search.specs.Opens.{forced_by}
-use Rattle.tree_search.proofs.branching.first_forced.Given as goal
-
-abbrev pub invariant-loop-k : goal.invariant-loop-k
-invariant-loop-k l = (j : ℕ) → j < l.k → forced_by l.node (limit_at l.p j) ≡ None
