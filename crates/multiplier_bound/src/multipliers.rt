@@ -15,7 +15,7 @@ use std::alloc::Global;
 use std::marker::Model;
 
 /// The greatest multiplier of a cap or a shelf, 2^100.
-pub(crate) const MOST_MULTIPLIER: u128 = 1_267_650_600_228_229_401_496_703_205_376;
+const MOST_MULTIPLIER: u128 = 1_267_650_600_228_229_401_496_703_205_376;
 
 /// The limits of a problem that have a multiplier, which are all but ladders, in file order, and room for the prices under
 /// multipliers.
@@ -71,7 +71,7 @@ fn is_multiplier(limit: Limit, number: u128) -> bool
 }
 
 /// What a cap or a shelf counts of product `i`.
-pub(crate) fn units(p: &Problem, limit: Limit, i: usize) -> u128
+pub fn units(p: &Problem, limit: Limit, i: usize) -> u128
     requires { i < product_count p.now }
     ensures value { (u : ℕ) → is_requires limit ≡ false → taken_by p.now limit u i ≡ u * result }
     ensures bound { result ≤ 1000 }
@@ -86,7 +86,7 @@ pub(crate) fn units(p: &Problem, limit: Limit, i: usize) -> u128
 }
 
 /// How many units a cap or a shelf allows.
-pub(crate) fn allowance(limit: Limit) -> u128
+pub fn allowance(limit: Limit) -> u128
     requires { IsInRange limit }
     ensures value { (u : ℕ) → allowed_by limit u ≡ u * result }
     ensures bound { result ≤ 1000 }
@@ -218,7 +218,7 @@ impl Multipliers {
     }
 
     /// The limits that have a multiplier, in file order.
-    pub(crate) fn priced(&self) -> &Limits
+    pub fn priced(&self) -> &Limits
         ensures { result.now.items ≡ self.now.priced }
     {
         &self.priced

@@ -9,7 +9,7 @@ use Rattle.offer_model.specs.Nodes.{mark_at, first_open, Agrees, Completes}
 use Rattle.offer_model.proofs.SumLemmas.{sum_le}
 use Rattle.offer_model.proofs.CompletionLemmas.{Completes-agrees, Completes-length}
 use Rattle.tree_search.specs.Goals.{Rules, IsLawful}
-use Rattle.tree_search.specs.Opens.{first_is_open}
+use Rattle.several_step.specs.Opens.{first_is_open}
 
 -- How many of n products are offered.
 abbrev pub offered_of : ℕ → List Bool → ℕ

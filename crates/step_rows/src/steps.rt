@@ -10,13 +10,13 @@ use limit_rules::{Kind, kind_of};
 use linear_step::{Closer, Closing, Step, Steps, Weights, weights_at};
 use offer_model::{Assortment, NoMemory, Node, Problem};
 use rank_step::{CapsStep, FreeStep};
+use several_step::SearchStep;
 use std::alloc::Global;
 use std::marker::Brand;
 use std::process::Abort;
 use std::sync::ledger::{Blank, Ledger};
 use std::test::Fail;
 use table_steps::{LadderStep, ShelfStep};
-use tree_search::SearchStep;
 
 /// What an assortment weighs.
 fn weight_of(p: &Problem, weights: &Weights, x: &Assortment) -> i128
