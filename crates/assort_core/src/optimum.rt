@@ -18,12 +18,12 @@ use proof_write::{ProofFault, write_mixed_proof, write_ratio_proof, write_search
 use rank_step::{CapsStep, FreeStep};
 use ratio_loop::best_ratio;
 use segment_bound::TangentGoal;
+use several_step::SearchStep;
 use std::alloc::Global;
 use std::marker::Brand;
 use std::sync::ledger::{Blank, Ledger};
 use std::thread::Threads;
 use table_steps::{LadderStep, ShelfStep};
-use tree_search::SearchStep;
 use worker_rounds::search_together;
 
 /// How the best assortment of a problem is found: the step of its limits' kind, which also closes the leaves of the

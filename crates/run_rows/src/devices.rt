@@ -98,3 +98,15 @@ fn an_output_that_takes_nothing_leaves_the_file_whole(rt: HostRuntime) -> Result
     }
     Ok(())
 }
+
+#[test]
+fn reads_of_one_byte_leave_the_same_file(rt: HostRuntime) -> Result<(), Fail> {
+    for row in [CHAIN, TRIAL] {
+        let mut store = store_of(rt.alloc(), row)?;
+        store.give_at_most(1);
+        let said = run_over(&rt, rt.alloc(), row.line, &mut store, NOTHING_FAILS)?;
+        assert_eq!(rt; said.status, 0);
+        assert!(rt; store.file(row.output) == Some(row.text));
+    }
+    Ok(())
+}

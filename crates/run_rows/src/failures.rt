@@ -143,3 +143,17 @@ fn the_second_line_that_fails_leaves_the_first(rt: HostRuntime) -> Result<(), Fa
     assert!(rt; store.file("q") == Some(b"assort-proof 1\n".as_slice()));
     Ok(())
 }
+
+#[test]
+fn reads_of_one_byte_give_the_same_proof_and_verdict(rt: HostRuntime) -> Result<(), Fail> {
+    let mut store = MemoryStore::new(rt.alloc());
+    store.put("p.csv", PRODUCTS)?;
+    store.give_at_most(1);
+    let solved = run_over(&rt, rt.alloc(), SOLVE_AND_PROVE, &mut store, NOTHING_FAILS)?;
+    assert_eq!(rt; solved.out.as_slice(), REPORT);
+    assert!(rt; store.file("q") == Some(PROOF));
+    let checked = run_over(&rt, rt.alloc(), CHECK, &mut store, NOTHING_FAILS)?;
+    assert_eq!(rt; checked.status, 0);
+    assert_eq!(rt; checked.out.as_slice(), b"accepted\n".as_slice());
+    Ok(())
+}
