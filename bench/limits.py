@@ -1,9 +1,7 @@
 #!/usr/bin/env python3
 """Measures solve, certificates and check under limits beside HiGHS, GLPK and CBC on the usual models. See README.md.
 
-The usual model: y0 is the chance of buying nothing, y_i that of product i, so z_i = (v_0 / v_i) * y_i is y0 where i is offered and 0
-elsewhere. Caps and requirements are rows over the z whose linear program is integral; a shelf and a ladder need z_i = 0 or y0,
-by a binary variable each."""
+Caps and requirements are rows whose linear program is integral; a shelf and a ladder need a binary variable for each product."""
 import os
 import random
 import shutil
@@ -11,6 +9,7 @@ import subprocess
 from fractions import Fraction
 
 from calls import TRIALS, calls, count
+from models import ratio_model
 from run import PROGRAM, REPEATS, best_time, in_folder, machine, options, report
 
 
@@ -113,21 +112,10 @@ def highs(case):
 
 
 def write_lp(case, path):
-    n, v, r = case.n, case.columns['attraction'], case.columns['margin']
+    columns = case.columns
+    model = ratio_model(case.none, columns['margin'], columns['attraction'], [0] * case.n, case.rows, case.binary)
     with open(path, 'w') as f:
-        f.write('Maximize\n obj: ' + ' + '.join('%d y%d' % (r[i], i) for i in range(n)) + '\nSubject To\n')
-        f.write(' one: y + ' + ' + '.join('y%d' % i for i in range(n)) + ' = 1\n')
-        for i in range(n):
-            f.write(' o%d: %.17g y%d - y <= 0\n' % (i, case.none / v[i], i))
-            if case.binary:
-                f.write(' z%d: %.17g y%d - x%d <= 0\n' % (i, case.none / v[i], i, i))
-                f.write(' w%d: %.17g y%d - y - x%d >= -1\n' % (i, case.none / v[i], i, i))
-        for k, (weights, most) in enumerate(case.rows):
-            terms = ' + '.join('%.17g y%d' % (w * case.none / v[i], i) for i, w in weights.items()).replace('+ -', '- ')
-            f.write(' l%d: %s - %d y <= 0\n' % (k, terms, most))
-        if case.binary:
-            f.write('Binary\n ' + ' '.join('x%d' % i for i in range(n)) + '\n')
-        f.write('End\n')
+        model.write(f)
 
 
 def solver(words, limit):

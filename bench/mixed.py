@@ -1,13 +1,11 @@
 #!/usr/bin/env python3
-"""Measures solve, certificates and check under mixed logit beside HiGHS, GLPK and CBC on the usual mixed-integer model. See README.md.
-
-The model: x_i is whether product i is offered, y0 the chance of buying nothing in a segment, z_i = x_i * y0 there, so that product i is
-bought with the chance (v_i / v_0) * z_i. A cap K on some products is the row sum z_i <= K * y0 over these in each segment."""
+"""Measures solve, certificates and check under mixed logit beside HiGHS, GLPK and CBC on the usual mixed-integer model. See README.md."""
 import os
 import random
 import statistics
 import subprocess
 
+import models
 from calls import NODES, calls, count
 from limits import solver
 from run import PROGRAM, best_time, in_folder, machine, options, report
@@ -113,54 +111,17 @@ def program(folder, command, proof=None, most=None):
 
 
 def model_of(case):
-    """The columns' count, the objective, and the rows as (terms, sense, right side), over the columns x, then y0 and z by segment."""
-    n = len(case.margins)
-    total, objective, rows = n, {}, []
-    for size, none, attractions in case.segments:
-        y, z = total, total + 1
-        total += n + 1
-        rows.append(({y: 1.0, **{z + i: v / none for i, v in enumerate(attractions)}}, '=', 1.0))
-        for i, v in enumerate(attractions):
-            objective[z + i] = size * case.margins[i] * v / none
-            rows.append(({z + i: 1.0, y: -1.0}, '<=', 0.0))
-            rows.append(({z + i: 1.0, i: -none / (none + v)}, '<=', 0.0))
-            rows.append(({y: 1.0, z + i: -1.0, i: 1.0}, '<=', 1.0))
-        for products, cap in case.caps():
-            rows.append(({y: -float(cap), **{z + i: 1.0 for i in products}}, '<=', 0.0))
-    for products, cap in case.caps():
-        rows.append(({i: 1.0 for i in products}, '<=', float(cap)))
-    return total, objective, rows
+    return models.mixed_model(case.margins, case.segments, [({i: 1 for i in products}, cap) for products, cap in case.caps()])
 
 
 def write_lp(case, path):
-    total, objective, rows = model_of(case)
-    terms = lambda row: ' '.join('%+.17g v%d' % (value, column) for column, value in row.items())
     with open(path, 'w') as f:
-        f.write('Maximize\n obj: %s\nSubject To\n' % terms(objective))
-        f.write(''.join(' r%d: %s %s %.17g\n' % (k, terms(row), sense, right) for k, (row, sense, right) in enumerate(rows)))
-        f.write('Binary\n ' + ' '.join('v%d' % i for i in range(len(case.margins))) + '\nEnd\n')
+        model_of(case).write(f)
 
 
 def highs(case, most):
-    try:
-        import numpy
-        from scipy.optimize import Bounds, LinearConstraint, milp
-        from scipy.sparse import lil_matrix
-    except ImportError:
-        return None
-    total, objective, rows = model_of(case)
-    n, matrix, low, high = len(case.margins), lil_matrix((len(rows), total)), [], []
-    for k, (row, sense, right) in enumerate(rows):
-        for column, value in row.items():
-            matrix[k, column] = value
-        low.append(right if sense == '=' else -numpy.inf)
-        high.append(right)
-    cost = numpy.zeros(total)
-    for column, value in objective.items():
-        cost[column] = -value
-    whole = numpy.array([1] * n + [0] * (total - n))
-    limits = LinearConstraint(matrix.tocsr(), low, high)
-    return lambda: milp(cost, constraints=limits, integrality=whole, bounds=Bounds(0, 1), options={'time_limit': most, 'mip_rel_gap': 0}).status == 0
+    work = models.highs(model_of(case), most)
+    return work and (lambda: work().status == 0)
 
 
 def ended(work):

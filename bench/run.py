@@ -13,6 +13,7 @@ import time
 from fractions import Fraction
 
 import generate
+from models import Model
 
 HERE = os.path.dirname(os.path.abspath(__file__))
 PROGRAM = os.path.join(HERE, '..', 'crates', 'assort', 'out', 'assort')
@@ -73,13 +74,14 @@ def highs(products, none):
 def glpk(products, none, folder):
     if not shutil.which('glpsol'):
         return None
-    path = os.path.join(folder, 'model.lp')
+    path, bought = os.path.join(folder, 'model.lp'), ['y%d' % i for i in range(len(products))]
+    model = Model(bought + ['z'], [])
+    model.objective = {y: r for y, (_, r, _) in zip(bought, products)}
+    model.row({'z': 1, **{y: 1 for y in bought}}, '=', 1, 'one')
+    for y, (_, _, v) in zip(bought, products):
+        model.row({y: 1, 'z': -v / none}, '<=', 0)
     with open(path, 'w') as f:
-        f.write('Maximize\n obj: ' + ' + '.join('%d y%d' % (r, i) for i, (_, r, _) in enumerate(products)) + '\nSubject To\n')
-        f.write(' one: z + ' + ' + '.join('y%d' % i for i in range(len(products))) + ' = 1\n')
-        for i, (_, _, v) in enumerate(products):
-            f.write(' c%d: y%d - %.17g z <= 0\n' % (i, i, v / none))
-        f.write('End\n')
+        model.write(f)
     def work():
         subprocess.run(['glpsol', '--lp', path, '-o', os.path.join(folder, 'solution')], stdout=subprocess.DEVNULL, check=True)
     return work
