@@ -6,6 +6,7 @@ import os
 import random
 import shutil
 import subprocess
+import threading
 from fractions import Fraction
 
 from calls import TRIALS, calls, count
@@ -122,11 +123,15 @@ def solver(words, limit):
     if not shutil.which(words[0]):
         return None
     def work():
-        try:
-            subprocess.run(words, stdout=subprocess.DEVNULL, check=True, timeout=limit)
-            return True
-        except subprocess.TimeoutExpired:
-            return False
+        # A wait with a limit of its own looks only now and then whether the process has ended.
+        child = subprocess.Popen(words, stdout=subprocess.DEVNULL)
+        end = threading.Timer(limit, child.kill)
+        end.start()
+        status = child.wait()
+        end.cancel()
+        if status > 0:
+            raise subprocess.CalledProcessError(status, words)
+        return status == 0
     return work
 
 
