@@ -180,7 +180,12 @@ def tables():
     rows = run.table('table', 'bytes', 'solve', 'csv.reader', 'peak memory', 'bytes of memory per byte')
     lines = ['## Reading tables', '', 'Time of the whole process of `solve` beside that of Python\'s `csv.reader` over the same file, and the program\'s memory at its peak.', '']
     body = [[row['table'], told(run.figure(row, 'bytes'), 0), told(run.figure(row, 'solve')), told(run.figure(row, 'csv.reader')), told(run.figure(row, 'peak memory'), 0), row['bytes of memory per byte']] for row in rows]
-    return run, lines + table(['table', 'bytes', 'solve', 'csv.reader', 'bytes of memory', 'of these for each byte'], body), {}
+    lines += table(['table', 'bytes', 'solve', 'csv.reader', 'bytes of memory', 'of these for each byte'], body)
+    more = kept.newest('devices')
+    heads = ['input', 'bytes', 'status', 'memory at the peak, MB']
+    lines += ['', 'The greatest files on a real device, and files of a byte more, which are refused:', '']
+    lines += table(heads, [[row[head] for head in heads] for row in more.table(*heads)])
+    return [run, more], lines, {}
 
 
 def gate():
