@@ -3,7 +3,7 @@ import re
 
 import kept
 import plots
-from sections import picture, source, table, told
+from sections import CHILD, picture, source, table, told
 
 # The kinds of runs with certificates' bytes and times of check, and what the plot calls them.
 KINDS = (('logit', 'logit without limits'), ('limits', 'limits of one kind'), ('several', 'limits of several kinds'), ('mixed', 'mixed logit'))
@@ -34,7 +34,7 @@ def certificates():
 def pieces():
     run = kept.newest('pieces')
     rows = run.table('bytes', 'answer', 'seconds', 'memory at the peak, MB')
-    lines = ['## Certificates in pieces', '', '`check` reads a certificate piece by piece, so that its memory doesn\'t go with the certificate\'s bytes.', '']
+    lines = ['## Certificates in pieces', '', '`check` reads a certificate piece by piece, so that its memory doesn\'t go with the certificate\'s bytes. All have as many branches, by which time goes more than by bytes. ' + CHILD + ' The program\'s own stands below, with the greatest files.', '']
     body = [[row['bytes'], row['answer'], row['seconds'], row['memory at the peak, MB']] for row in rows]
     return run, lines + table(['bytes', 'answer', 'seconds', 'memory at the peak, MB'], body), {}
 

@@ -8,6 +8,9 @@ import plots
 STYLES = {'solve': 0, 'HiGHS': 1, 'GLPK': 2, 'CBC': 3, 'solve with a certificate': 4, 'check': 5, 'enumeration in Python': 6}
 MILLISECONDS = 'milliseconds'
 
+# What the scripts that start a process from Python can tell of its memory.
+CHILD = 'Memory is that of a process which Python starts, and never less than what Python has itself when it starts one.'
+
 
 def source(run):
     return 'From the run [`%s`](runs/%s.md) of %s: %s.' % (run.name, run.name, run.date, run.machine)
@@ -178,12 +181,12 @@ def chains():
 def tables():
     run = kept.newest('tables')
     rows = run.table('table', 'bytes', 'solve', 'csv.reader', 'peak memory', 'bytes of memory per byte')
-    lines = ['## Reading tables', '', 'Time of the whole process of `solve` beside that of Python\'s `csv.reader` over the same file, and the program\'s memory at its peak.', '']
+    lines = ['## Reading tables', '', 'Time of the whole process of `solve` beside that of Python\'s `csv.reader` over the same file, and memory at its peak. ' + CHILD + ' The figure of a small table is Python\'s then, and no figure of the program.', '']
     body = [[row['table'], told(run.figure(row, 'bytes'), 0), told(run.figure(row, 'solve')), told(run.figure(row, 'csv.reader')), told(run.figure(row, 'peak memory'), 0), row['bytes of memory per byte']] for row in rows]
     lines += table(['table', 'bytes', 'solve', 'csv.reader', 'bytes of memory', 'of these for each byte'], body)
     more = kept.newest('devices')
     heads = ['input', 'bytes', 'status', 'memory at the peak, MB']
-    lines += ['', 'The greatest files on a real device, and files of a byte more, which are refused:', '']
+    lines += ['', 'The greatest files on a real device, and files of a byte more, which are refused. The tables are small ones, filled up with blank lines; memory is that which GNU time tells, the program\'s own:', '']
     lines += table(heads, [[row[head] for head in heads] for row in more.table(*heads)])
     return [run, more], lines, {}
 
