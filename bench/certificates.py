@@ -67,6 +67,6 @@ def peers(runs):
         lines += ['In these runs peers found other values:', ''] + wrong
     else:
         lines += ['In none of the runs of this page a peer is stated to have found another value.']
-    cut = ', '.join('%s on %d' % pair for pair in sorted(ended.items()))
+    cut = ', '.join('%s on %d inputs' % pair for pair in sorted(ended.items()))
     lines += ['', 'Peers that were ended before they were through: %s.' % (cut or 'none was seen')]
     return lines
